@@ -1,0 +1,184 @@
+//! One call: its record, the states with the connections that they hold, and what an event hands
+//! back.
+//!
+//! The rows themselves stand in `rerouting_rows` and `release_rows`. Only the functions below make
+//! a changed record.
+
+use crate::vocabulary::{one, Answer, Event, Signal, Signals, SILENT};
+
+/// The soft rerouting service of a call, numbered as decision 22 says.
+#[derive(Clone, Copy, Debug, PartialEq, Eq)]
+pub enum Soft {
+    None,
+    Asymmetric,
+    Symmetric,
+}
+
+impl Soft {
+    pub fn number(self) -> u8 {
+        match self {
+            Soft::None => 0,
+            Soft::Asymmetric => 1,
+            Soft::Symmetric => 2,
+        }
+    }
+}
+
+/// The services that an opening may name.
+#[derive(Clone, Copy, Debug, PartialEq, Eq)]
+pub struct Services {
+    pub hard: bool,
+    pub soft: Soft,
+}
+
+impl Services {
+    /// Taken where an opening names none (01, "The table and its records").
+    pub const UNNAMED: Self = Self { hard: true, soft: Soft::None };
+}
+
+/// The states of 6.2.3, each with the connection numbers that 01 lets it hold.
+#[derive(Clone, Copy, Debug, PartialEq, Eq)]
+pub enum State {
+    Null,
+    ReroutingIdle { incumbent: u16 },
+    HardRerouteTriggered,
+    HardRerouteProceeding { rerouting: u16 },
+    SoftRerouteTriggered { incumbent: u16 },
+    SoftRerouteProceeding { incumbent: u16, rerouting: u16 },
+    SoftRerouteInitiated { incumbent: u16, rerouting: u16 },
+    AwaitingSwitchover { incumbent: u16, rerouting: u16 },
+}
+
+impl State {
+    pub fn number(self) -> u8 {
+        match self {
+            State::Null => 0,
+            State::ReroutingIdle { .. } => 1,
+            State::HardRerouteTriggered => 2,
+            State::HardRerouteProceeding { .. } => 3,
+            State::SoftRerouteTriggered { .. } => 4,
+            State::SoftRerouteProceeding { .. } => 5,
+            State::SoftRerouteInitiated { .. } => 6,
+            State::AwaitingSwitchover { .. } => 7,
+        }
+    }
+
+    pub fn incumbent(self) -> Option<u16> {
+        match self {
+            State::Null => None,
+            State::ReroutingIdle { incumbent } => Some(incumbent),
+            State::HardRerouteTriggered => None,
+            State::HardRerouteProceeding { .. } => None,
+            State::SoftRerouteTriggered { incumbent } => Some(incumbent),
+            State::SoftRerouteProceeding { incumbent, .. } => Some(incumbent),
+            State::SoftRerouteInitiated { incumbent, .. } => Some(incumbent),
+            State::AwaitingSwitchover { incumbent, .. } => Some(incumbent),
+        }
+    }
+
+    pub fn rerouting(self) -> Option<u16> {
+        match self {
+            State::Null => None,
+            State::ReroutingIdle { .. } => None,
+            State::HardRerouteTriggered => None,
+            State::HardRerouteProceeding { rerouting } => Some(rerouting),
+            State::SoftRerouteTriggered { .. } => None,
+            State::SoftRerouteProceeding { rerouting, .. } => Some(rerouting),
+            State::SoftRerouteInitiated { rerouting, .. } => Some(rerouting),
+            State::AwaitingSwitchover { rerouting, .. } => Some(rerouting),
+        }
+    }
+}
+
+/// The record of one call (01, "The table and its records").
+#[derive(Clone, Copy, Debug, PartialEq, Eq)]
+pub struct Call {
+    pub key: u32,
+    pub hard: bool,
+    pub soft: Soft,
+    pub state: State,
+    /// The last connection number given.
+    pub last: u16,
+    /// The remote incarnation number.
+    pub remote: u32,
+}
+
+/// What one event hands back.
+#[derive(Clone, Copy, Debug, PartialEq, Eq)]
+pub struct Outcome {
+    pub answer: Answer,
+    pub call: Call,
+    pub signals: Signals,
+}
+
+impl Outcome {
+    /// The call reaches Null and its record is emptied (01, "The table and its records").
+    pub fn ended(signals: Signals) -> Self {
+        Self { answer: Answer::Done, call: Call::EMPTY, signals }
+    }
+}
+
+impl Call {
+    pub const EMPTY: Self =
+        Self { key: 0, hard: false, soft: Soft::None, state: State::Null, last: 0, remote: 0 };
+
+    /// A new call, Idle on number 1 (01, "The table and its records"). Keys and places are the
+    /// table's matter. Hard off with soft none is allowed (decision 14).
+    pub fn open(key: u32, named: Option<Services>) -> Outcome {
+        let Services { hard, soft } = named.unwrap_or(Services::UNNAMED);
+        let state = State::ReroutingIdle { incumbent: 1 };
+        let call = Self { key, hard, soft, state, last: 1, remote: 0 };
+        call.kept(SILENT)
+    }
+
+    /// The record after an event, with its answer and its signals.
+    pub fn after(self, event: Event) -> Outcome {
+        match event {
+            Event::Trigger => self.trigger(),
+            Event::PathFound => self.path_found(),
+            Event::NoPath => self.no_path(),
+            Event::Connect { connection, policy } => self.connect(connection, policy),
+            Event::Setup { switchover, number } => self.setup(switchover, number),
+            Event::CallingRelease { cause } => self.calling_release(cause),
+            Event::CalledRelease(release) => self.called_release(release),
+            Event::Ready => self.ready(),
+            Event::TimerExpiry => self.timer_expiry(),
+        }
+    }
+
+    /// Nothing changes and nothing is sent (01, "Numbers of refusal").
+    pub fn refused(self, answer: Answer) -> Outcome {
+        Outcome { answer, call: self, signals: SILENT }
+    }
+
+    pub fn kept(self, signals: Signals) -> Outcome {
+        Outcome { answer: Answer::Done, call: self, signals }
+    }
+
+    pub fn moved(self, state: State, signals: Signals) -> Outcome {
+        Self { state, ..self }.kept(signals)
+    }
+
+    /// The number of a later connection: the last plus 1, or nothing at 65,535.
+    pub fn next_number(self) -> Option<u16> {
+        self.last.checked_add(1)
+    }
+
+    /// A setup sent on a new connection, or nothing at 65,535.
+    pub fn setup_sent(self, proceeding: impl FnOnce(u16) -> State) -> Option<Outcome> {
+        let rerouting = self.next_number()?;
+        let call = Self { last: rerouting, state: proceeding(rerouting), ..self };
+        Some(call.kept(one(Signal::setup(rerouting))))
+    }
+
+    /// A setup accepted on a new connection, its number stored, or 108 at 65,535.
+    pub fn setup_accepted(self, incumbent: u16, remote: u32, signals: Signals) -> Outcome {
+        match self.next_number() {
+            Some(rerouting) => {
+                let state = State::SoftRerouteInitiated { incumbent, rerouting };
+                Self { last: rerouting, remote, state, ..self }.kept(signals)
+            }
+            None => self.refused(Answer::NumbersSpent),
+        }
+    }
+}

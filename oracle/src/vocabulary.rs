@@ -1,0 +1,199 @@
+//! The words that events, answers and signals are made of.
+//!
+//! Citations, here and in every other file: `01` is the scope document, with the heading or the
+//! sentence meant; a bare number such as 6.2.4.2 is a section of af-cs-0173.000, `D17` an item of
+//! its Annex D; `decision 5` is a numbered decision on a point that those two leave open.
+
+/// A Rerouting release cause, by its number.
+#[derive(Clone, Copy, Debug, PartialEq, Eq)]
+pub struct ReroutingCause(pub u8);
+
+impl ReroutingCause {
+    /// #1, release received from outside any rerouting domain.
+    pub const OUTSIDE_ANY_DOMAIN: Self = Self(1);
+    /// #2, failed to recover the connection using domain-based rerouting.
+    pub const FAILED_TO_RECOVER: Self = Self(2);
+    /// #4, rerouting operation complete.
+    pub const OPERATION_COMPLETE: Self = Self(4);
+    /// #5, old incarnation number.
+    pub const OLD_INCARNATION_NUMBER: Self = Self(5);
+    /// #6, rerouting operation already in progress.
+    pub const ALREADY_IN_PROGRESS: Self = Self(6);
+    /// #8, unsupported switchover behaviour.
+    pub const UNSUPPORTED_SWITCHOVER: Self = Self(8);
+}
+
+/// The Rerouting cause of a signal (01, "Signals").
+#[derive(Clone, Copy, Debug, PartialEq, Eq)]
+pub enum SentCause {
+    Absent,
+    Number(ReroutingCause),
+    AsReceived(ReroutingCause),
+}
+
+/// The Cause code of a signal (01, "Signals").
+#[derive(Clone, Copy, Debug, PartialEq, Eq)]
+pub enum CauseCode {
+    /// Coded as section 6.6 says.
+    Section66,
+    /// #21, call rejected.
+    CallRejected,
+}
+
+/// The kinds of decision 16, in the order in which 01 fills the places.
+#[derive(Clone, Copy, Debug, PartialEq, Eq)]
+pub enum SignalKind {
+    None,
+    TimerStart,
+    TimerStop,
+    Switch,
+    ReleaseCalling,
+    ReleaseIncumbent,
+    ReleaseRerouting,
+    Setup,
+    Connect,
+    Reject,
+}
+
+/// One of the four signals of an event.
+#[derive(Clone, Copy, Debug, PartialEq, Eq)]
+pub struct Signal {
+    pub kind: SignalKind,
+    /// 0 for the calling side, the timer and a rejected setup (01, "Signals").
+    pub connection: u16,
+    pub rerouting_cause: SentCause,
+    pub cause_code: CauseCode,
+}
+
+impl Signal {
+    pub const NONE: Self = Self::plain(SignalKind::None, 0);
+    pub const TIMER_START: Self = Self::plain(SignalKind::TimerStart, 0);
+    pub const TIMER_STOP: Self = Self::plain(SignalKind::TimerStop, 0);
+
+    /// Absent cause and section 6.6, which hold wherever no row says otherwise (decision 17).
+    const fn plain(kind: SignalKind, connection: u16) -> Self {
+        Self {
+            kind,
+            connection,
+            rerouting_cause: SentCause::Absent,
+            cause_code: CauseCode::Section66,
+        }
+    }
+
+    pub fn switch(connection: u16) -> Self {
+        Self::plain(SignalKind::Switch, connection)
+    }
+
+    pub fn setup(connection: u16) -> Self {
+        Self::plain(SignalKind::Setup, connection)
+    }
+
+    pub fn connect(connection: u16) -> Self {
+        Self::plain(SignalKind::Connect, connection)
+    }
+
+    pub fn reject(cause: ReroutingCause) -> Self {
+        let rerouting_cause = SentCause::Number(cause);
+        Self { rerouting_cause, ..Self::plain(SignalKind::Reject, 0) }
+    }
+
+    pub fn release_calling(rerouting_cause: SentCause) -> Self {
+        Self { rerouting_cause, ..Self::plain(SignalKind::ReleaseCalling, 0) }
+    }
+
+    pub fn release_incumbent(connection: u16, rerouting_cause: SentCause) -> Self {
+        Self { rerouting_cause, ..Self::plain(SignalKind::ReleaseIncumbent, connection) }
+    }
+
+    pub fn release_rerouting(connection: u16, rerouting_cause: SentCause) -> Self {
+        Self { rerouting_cause, ..Self::plain(SignalKind::ReleaseRerouting, connection) }
+    }
+
+    /// Cause code #21, with the Rerouting cause absent beside it (6.2.6.2; decision 12).
+    pub fn rerouting_rejected(connection: u16) -> Self {
+        let cause_code = CauseCode::CallRejected;
+        Self { cause_code, ..Self::plain(SignalKind::ReleaseRerouting, connection) }
+    }
+}
+
+/// The signals of one event, filled from the front.
+pub type Signals = [Signal; 4];
+
+pub const SILENT: Signals = [Signal::NONE; 4];
+
+pub fn one(first: Signal) -> Signals {
+    [first, Signal::NONE, Signal::NONE, Signal::NONE]
+}
+
+/// No event fills more places than two (decision 18).
+pub fn two(first: Signal, second: Signal) -> Signals {
+    [first, second, Signal::NONE, Signal::NONE]
+}
+
+/// What an event on one call is answered (01, "Numbers of refusal").
+#[derive(Clone, Copy, Debug, PartialEq, Eq)]
+pub enum Answer {
+    Done,
+    WithoutMeaning,
+    WrongConnection,
+    NumbersSpent,
+}
+
+impl Answer {
+    pub fn number(self) -> u8 {
+        match self {
+            Answer::Done => 0,
+            Answer::WithoutMeaning => 106,
+            Answer::WrongConnection => 107,
+            Answer::NumbersSpent => 108,
+        }
+    }
+}
+
+/// Local policy on the switch to a connected rerouting connection (6.2.6.2).
+#[derive(Clone, Copy, Debug, PartialEq, Eq)]
+pub enum Policy {
+    No,
+    Yes,
+}
+
+/// The switchover behaviour that a setup asks for, by its code.
+#[derive(Clone, Copy, Debug, PartialEq, Eq)]
+pub struct SwitchoverCode(pub u8);
+
+impl SwitchoverCode {
+    /// Switchover immediately.
+    pub const IMMEDIATE: Self = Self(0);
+    /// Switchover when receiving the call clearing message.
+    pub const CLEARING: Self = Self(1);
+}
+
+/// What a release says of crankback.
+#[derive(Clone, Copy, Debug, PartialEq, Eq)]
+pub enum Crankback {
+    None,
+    AlternateFound,
+    NoneFound,
+}
+
+/// A release from the called side (01, "Release from the called side").
+#[derive(Clone, Copy, Debug, PartialEq, Eq)]
+pub struct CalledRelease {
+    pub connection: u16,
+    pub cause: Option<ReroutingCause>,
+    pub crankback: Crankback,
+}
+
+/// The events that meet a call on record; the tenth event, the opening, makes one.
+#[derive(Clone, Copy, Debug, PartialEq, Eq)]
+pub enum Event {
+    Trigger,
+    PathFound,
+    NoPath,
+    Connect { connection: u16, policy: Policy },
+    Setup { switchover: SwitchoverCode, number: u32 },
+    CallingRelease { cause: Option<ReroutingCause> },
+    CalledRelease(CalledRelease),
+    Ready,
+    TimerExpiry,
+}
