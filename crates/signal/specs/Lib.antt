@@ -1,0 +1,4 @@
+pub mod Choice
+pub mod Causes
+pub mod Signals
+pub mod Numbers
