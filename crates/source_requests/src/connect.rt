@@ -1,0 +1,70 @@
+// A connect for a connection, 6.2.6.
+ghost use mathlib.Core.Path.{_≡_};
+ghost use lib.Dec.{eqb};
+ghost use Rattle.signal.specs.declared.Answer.the-variants.{NotHeld};
+ghost use Rattle.signal.specs.Choice.{pick};
+ghost use Rattle.source_states.specs.Rows.{refuses};
+ghost use Rattle.source_requests.specs.Connect.{connectRow, hardConnected, softConnected};
+use signal::Answer;
+use signal::Kind;
+use signal::ReroutingCause;
+use signal::SentCause;
+use signal::Signal;
+use source_states::Change;
+use source_states::Row;
+use source_states::State;
+
+// 6.2.6.1
+fn hard_connected(connection: u16, rerouting: u16) -> Row
+    ensures { λ r. ⌜ r ≡ pick (eqb connection rerouting) (hardConnected rerouting) (refuses NotHeld) ⌝ }
+{
+    if connection == rerouting {
+        let switch = Signal::naming(Kind::Switch, rerouting);
+        let change = Change::Moves(State::Idle(rerouting));
+        return Row::decided(change, Signal::TIMER_STOP, switch);
+    }
+    Row::refused(Answer::NotHeld)
+}
+
+// 6.2.6.2
+fn soft_connected(agreed: bool, incumbent: u16, rerouting: u16) -> Row
+    ensures { λ r. ⌜ r ≡ softConnected agreed incumbent rerouting ⌝ }
+{
+    if agreed {
+        let switch = Signal::naming(Kind::Switch, rerouting);
+        let cause = SentCause::Numbered(ReroutingCause::COMPLETE);
+        let other = Signal::release(Kind::IncumbentRelease, incumbent, cause);
+        return Row::decided(Change::Moves(State::Idle(rerouting)), switch, other);
+    }
+    let change = Change::Moves(State::Idle(incumbent));
+    Row::decided(change, Signal::call_rejected(rerouting), Signal::NONE)
+}
+
+fn of_two(connection: u16, agreed: bool, incumbent: u16, rerouting: u16) -> Row
+    ensures { λ r. ⌜ r ≡ pick (eqb connection incumbent) (refuses NotHeld) (pick (eqb connection rerouting) (softConnected agreed incumbent rerouting) (refuses NotHeld)) ⌝ }
+{
+    if connection == incumbent {
+        return Row::refused(Answer::NotHeld);
+    }
+    if connection == rerouting {
+        return soft_connected(agreed, incumbent, rerouting);
+    }
+    Row::refused(Answer::NotHeld)
+}
+
+pub fn connect_row(connection: u16, agreed: bool, state: State) -> Row
+    ensures { λ r. ⌜ r ≡ connectRow connection agreed state ⌝ }
+{
+    match state {
+        State::Null => Row::refused(Answer::NoMeaning),
+        State::Idle(_) => Row::refused(Answer::NoMeaning),
+        State::HardTriggered => Row::refused(Answer::NoMeaning),
+        State::HardProceeding(rerouting) => hard_connected(connection, rerouting),
+        State::SoftTriggered(_) => Row::refused(Answer::NoMeaning),
+        State::SoftProceeding(incumbent, rerouting) => {
+            of_two(connection, agreed, incumbent, rerouting)
+        }
+        State::SoftInitiated(_, _) => Row::refused(Answer::NoMeaning),
+        State::Awaiting(_, _) => Row::refused(Answer::NoMeaning),
+    }
+}
