@@ -1,0 +1,15 @@
+use borrow.Author.Needs.{needs}
+use Rattle.source.proofs.Call.called_release.Statement.{statement}
+use Rattle.source.proofs.Call.called_release.Tie as tie
+
+returns : tie.Need-returns
+returns c = simp (c .carried .ensures, c .before .called-row .ensures, c .before .before .after .ensures)
+
+pub called-release-spec : {M : Type 1} → statement M
+called-release-spec =
+    tie.close
+    (tie.spec
+    (λ c κs. search needs)
+    (λ c κs. search needs)
+    (λ c κs. search needs)
+    returns)

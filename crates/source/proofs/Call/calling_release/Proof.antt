@@ -1,0 +1,14 @@
+use borrow.Author.Needs.{needs}
+use Rattle.source.proofs.Call.calling_release.Statement.{statement}
+use Rattle.source.proofs.Call.calling_release.Tie as tie
+
+returns : tie.Need-returns
+returns c = simp (c .carried .ensures, c .before .calling-row .ensures)
+
+pub calling-release-spec : {M : Type 1} → statement M
+calling-release-spec =
+    tie.close
+    (tie.spec
+    (λ c κs. search needs)
+    (λ c κs. search needs)
+    returns)

@@ -1,0 +1,14 @@
+use borrow.Author.Needs.{needs}
+use Rattle.source.proofs.Call.connect.Statement.{statement}
+use Rattle.source.proofs.Call.connect.Tie as tie
+
+returns : tie.Need-returns
+returns c = simp (c .carried .ensures, c .before .connect-row .ensures)
+
+pub connect-spec : {M : Type 1} → statement M
+connect-spec =
+    tie.close
+    (tie.spec
+    (λ c κs. search needs)
+    (λ c κs. search needs)
+    returns)

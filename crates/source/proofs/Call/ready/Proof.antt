@@ -1,0 +1,14 @@
+use borrow.Author.Needs.{needs}
+use Rattle.source.proofs.Call.ready.Statement.{statement}
+use Rattle.source.proofs.Call.ready.Tie as tie
+
+returns : tie.Need-returns
+returns c = simp (c .carried .ensures, c .before .ready-row .ensures)
+
+pub ready-spec : {M : Type 1} → statement M
+ready-spec =
+    tie.close
+    (tie.spec
+    (λ c κs. search needs)
+    (λ c κs. search needs)
+    returns)

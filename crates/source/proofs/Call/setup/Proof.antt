@@ -1,0 +1,15 @@
+use borrow.Author.Needs.{needs}
+use Rattle.source.proofs.Call.setup.Statement.{statement}
+use Rattle.source.proofs.Call.setup.Tie as tie
+
+returns : tie.Need-returns
+returns c = simp (c .carried .ensures, c .before .setup-row .ensures, c .before .before .after .ensures)
+
+pub setup-spec : {M : Type 1} → statement M
+setup-spec =
+    tie.close
+    (tie.spec
+    (λ c κs. search needs)
+    (λ c κs. search needs)
+    (λ c κs. search needs)
+    returns)
