@@ -2,3 +2,4 @@ pub mod Choice
 pub mod Causes
 pub mod Signals
 pub mod Numbers
+pub mod Counting

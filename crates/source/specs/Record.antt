@@ -2,7 +2,6 @@
 use Prim.Native.Nat.{ℕ}
 use mathlib.Core.Bool.{false}
 use mathlib.Core.List.{[]}
-use Rattle.signal.specs.declared.Answer.{Answer}
 use Rattle.signal.specs.declared.Answer.the-variants.{Done}
 use Rattle.signal.specs.declared.Soft.the-variants.{NoSoft}
 use Rattle.signal.specs.declared.Wanted.{Wanted}
@@ -13,6 +12,7 @@ use Rattle.source_states.specs.declared.State.the-variants.{Null, Idle}
 use Rattle.source_states.specs.declared.Change.{Change}
 use Rattle.source_states.specs.declared.Change.the-variants.{Refuses, Stays, Moves, Gives, Accepts, Ends}
 use Rattle.source_states.specs.declared.Row.{Row}
+use Rattle.source_states.specs.Lawful.{answerTo}
 use Rattle.source.specs.declared.Call.{Call}
 use Rattle.source.specs.declared.Outcome.{Outcome}
 
@@ -33,15 +33,7 @@ callAfter c (Gives s n) = movedTo c s n (c .remote)
 callAfter c (Accepts s n number) = movedTo c s n number
 callAfter c Ends = emptied
 
--- 0 for everything but a refusal
-abbrev pub answerTo : Change → Answer
-answerTo (Refuses a) = a
-answerTo Stays = Done
-answerTo (Moves s) = Done
-answerTo (Gives s n) = Done
-answerTo (Accepts s n number) = Done
-answerTo Ends = Done
-
+-- a row, carried out
 abbrev pub carriedOut : Call → Row → Outcome
 carriedOut c row = record { answer = answerTo (row .change); call = callAfter c (row .change); signals = row .signals }
 

@@ -4,8 +4,10 @@
 // Any record may be given, fit or not: the methods have no `requires`. What an event does stands in the rows (source_requests, source_releases); here a
 // row is carried out on the record, in one place for all events.
 ghost use mathlib.Core.Path.{_≡_};
-ghost use Rattle.source.specs.Record.{answerTo, movedTo, callAfter, carriedOut, openedFor};
-ghost use Rattle.source.specs.Events.{triggerOf, pathFoundOf, noPathOf, connectOf, setupOf, readyOf, expiryOf, callingOf, calledOf, eventOf};
+ghost use Rattle.source.specs.Record.{movedTo, callAfter, carriedOut, openedFor};
+ghost use Rattle.source_states.specs.declared.Event.the-variants.{Trigger, PathFound, NoPath, Connect, Setup, FromCalling, FromCalled, Ready, Expiry};
+ghost use Rattle.source_states.specs.Lawful.{answerTo};
+ghost use Rattle.source.specs.Events.{eventOf};
 use signal::Answer;
 use signal::Crankback;
 use signal::Fresh;
@@ -15,6 +17,7 @@ use signal::Soft;
 use signal::Switchover;
 use signal::Wanted;
 use source_states::Change;
+pub use source_states::Event;
 use source_states::Row;
 use source_states::State;
 
@@ -32,19 +35,6 @@ pub struct Outcome {
     pub answer: Answer,
     pub call: Call,
     pub signals: [Signal; 4],
-}
-
-// The events of one call, with their values (01, "Events and rows").
-pub enum Event {
-    Trigger,
-    PathFound,
-    NoPath,
-    Connect(u16, bool),
-    Setup(Switchover, u32),
-    CallingRelease(ReceivedCause),
-    CalledRelease(u16, ReceivedCause, Crankback),
-    Ready,
-    Expiry,
 }
 
 impl Call {
@@ -121,7 +111,7 @@ impl Call {
     }
 
     pub fn trigger(self) -> Outcome
-        ensures { λ r. ⌜ r ≡ triggerOf self ⌝ }
+        ensures { λ r. ⌜ r ≡ eventOf self Trigger ⌝ }
     {
         let soft = self.soft;
         let state = self.state;
@@ -129,14 +119,14 @@ impl Call {
     }
 
     pub fn path_found(self) -> Outcome
-        ensures { λ r. ⌜ r ≡ pathFoundOf self ⌝ }
+        ensures { λ r. ⌜ r ≡ eventOf self PathFound ⌝ }
     {
         let state = self.state;
         self.carried(source_requests::path_row(Fresh::after(self.last), state))
     }
 
     pub fn no_path(self) -> Outcome
-        ensures { λ r. ⌜ r ≡ noPathOf self ⌝ }
+        ensures { λ r. ⌜ r ≡ eventOf self NoPath ⌝ }
     {
         let state = self.state;
         self.carried(source_requests::no_path_row(state))
@@ -144,14 +134,14 @@ impl Call {
 
     // `agreed` is local policy's yes.
     pub fn connect(self, connection: u16, agreed: bool) -> Outcome
-        ensures { λ r. ⌜ r ≡ connectOf self connection agreed ⌝ }
+        ensures { λ r. ⌜ r ≡ eventOf self (Connect connection agreed) ⌝ }
     {
         let state = self.state;
         self.carried(source_requests::connect_row(connection, agreed, state))
     }
 
     pub fn setup(self, code: Switchover, number: u32) -> Outcome
-        ensures { λ r. ⌜ r ≡ setupOf self code number ⌝ }
+        ensures { λ r. ⌜ r ≡ eventOf self (Setup code number) ⌝ }
     {
         let soft = self.soft;
         let state = self.state;
@@ -160,21 +150,21 @@ impl Call {
     }
 
     pub fn ready(self) -> Outcome
-        ensures { λ r. ⌜ r ≡ readyOf self ⌝ }
+        ensures { λ r. ⌜ r ≡ eventOf self Ready ⌝ }
     {
         let state = self.state;
         self.carried(source_requests::ready_row(state))
     }
 
     pub fn expiry(self) -> Outcome
-        ensures { λ r. ⌜ r ≡ expiryOf self ⌝ }
+        ensures { λ r. ⌜ r ≡ eventOf self Expiry ⌝ }
     {
         let state = self.state;
         self.carried(source_releases::expiry_row(state))
     }
 
     pub fn calling_release(self, cause: ReceivedCause) -> Outcome
-        ensures { λ r. ⌜ r ≡ callingOf self cause ⌝ }
+        ensures { λ r. ⌜ r ≡ eventOf self (FromCalling cause) ⌝ }
     {
         let state = self.state;
         self.carried(source_releases::calling_row(self.hard, cause, state))
@@ -186,7 +176,7 @@ impl Call {
         cause: ReceivedCause,
         crankback: Crankback,
     ) -> Outcome
-        ensures { λ r. ⌜ r ≡ calledOf self connection cause crankback ⌝ }
+        ensures { λ r. ⌜ r ≡ eventOf self (FromCalled connection cause crankback) ⌝ }
     {
         let state = self.state;
         let next = Fresh::after(self.last);
@@ -210,8 +200,8 @@ impl Call {
             Event::NoPath => self.no_path(),
             Event::Connect(connection, agreed) => self.connect(connection, agreed),
             Event::Setup(code, number) => self.setup(code, number),
-            Event::CallingRelease(cause) => self.calling_release(cause),
-            Event::CalledRelease(connection, cause, crankback) => {
+            Event::FromCalling(cause) => self.calling_release(cause),
+            Event::FromCalled(connection, cause, crankback) => {
                 self.called_release(connection, cause, crankback)
             }
             Event::Ready => self.ready(),

@@ -6,7 +6,10 @@ ghost use mathlib.Core.Path.{_≡_};
 ghost use Rattle.source_states.specs.States.{stateNumber, incumbentOf, reroutingOf};
 ghost use Rattle.source_states.specs.Rows.{refuses, decides};
 use signal::Answer;
+use signal::Crankback;
+use signal::ReceivedCause;
 use signal::Signal;
+use signal::Switchover;
 
 // The states of 6.2.3. Each carries its own connection numbers: the incumbent first, then the rerouting one.
 pub enum State {
@@ -67,6 +70,23 @@ impl State {
             State::Awaiting(_, rerouting) => rerouting,
         }
     }
+}
+
+// The events of one call, with their values (01, "Events and rows").
+pub enum Event {
+    Trigger,
+    PathFound,
+    NoPath,
+    // the connection, and local policy's yes
+    Connect(u16, bool),
+    // the switchover code and the incarnation number
+    Setup(Switchover, u32),
+    // a release from the calling side
+    FromCalling(ReceivedCause),
+    // a release from the called side, for a connection
+    FromCalled(u16, ReceivedCause, Crankback),
+    Ready,
+    Expiry,
 }
 
 // What a row does to the record.

@@ -1,0 +1,81 @@
+-- What a row of signals says, counted: the natural terms in which claims speak of signals. None of it mentions a state or a row. Assumes nothing.
+use Prim.Native.Nat.{ℕ, _+_}
+use mathlib.Core.Bool.{Bool, true, false, _&&_, _||_}
+use mathlib.Core.List.{List, [], _∷_, _++_}
+use lib.Dec.{eqb, ltb}
+use Rattle.signal.specs.declared.Kind.{Kind}
+use Rattle.signal.specs.declared.Kind.the-variants.{NoSignal, TimerStart, TimerStop, Switch, CallingRelease, IncumbentRelease, ReroutingRelease, SetupRequest, ConnectRequest, Rejection}
+use Rattle.signal.specs.declared.CauseCode.{CauseCode}
+use Rattle.signal.specs.declared.CauseCode.the-variants.{Section66, CallRejected}
+use Rattle.signal.specs.declared.Signal.{Signal}
+use Rattle.signal.specs.Choice.{pick}
+
+-- whether x is y, as a number
+unfoldable pub one : ℕ → ℕ → ℕ
+one x y = pick (eqb x y) 1 0
+
+-- how often x stands in a list
+abbrev pub count : ℕ → List ℕ → ℕ
+count x [] = 0
+count x (y ∷ more) = one x y + count x more
+
+-- the number of a kind (decision 16)
+abbrev pub kindNumber : Kind → ℕ
+kindNumber NoSignal = 0
+kindNumber TimerStart = 1
+kindNumber TimerStop = 2
+kindNumber Switch = 3
+kindNumber CallingRelease = 4
+kindNumber IncumbentRelease = 5
+kindNumber ReroutingRelease = 6
+kindNumber SetupRequest = 7
+kindNumber ConnectRequest = 8
+kindNumber Rejection = 9
+
+-- the signals of one kind, in order
+abbrev pub ofKind : Kind → List Signal → List Signal
+ofKind k [] = []
+ofKind k (s ∷ more) = pick (eqb (kindNumber (s .kind)) (kindNumber k)) (s ∷ ofKind k more) (ofKind k more)
+
+-- the connections that signals name
+abbrev pub named : List Signal → List ℕ
+named [] = []
+named (s ∷ more) = s .connection ∷ named more
+
+-- the connections that the signals end: a release of the incumbent or of the rerouting connection, sent, ends it
+abbrev pub endedSent : List Signal → List ℕ
+endedSent [] = []
+endedSent (s ∷ more) =
+    pick (eqb (kindNumber (s .kind)) 5 || eqb (kindNumber (s .kind)) 6) (s .connection ∷ endedSent more) (endedSent more)
+
+abbrev pub isCallRejected : CauseCode → Bool
+isCallRejected Section66 = false
+isCallRejected CallRejected = true
+
+-- the signals with Cause code #21
+abbrev pub withCode21 : List Signal → List Signal
+withCode21 [] = []
+withCode21 (s ∷ more) = pick (isCallRejected (s .code)) (s ∷ withCode21 more) (withCode21 more)
+
+-- the printed order: timer, switch, calling-side release, incumbent release, rerouting release, setup or connect or reject (01, "Signals")
+abbrev pub turnOf : Kind → ℕ
+turnOf NoSignal = 7
+turnOf TimerStart = 1
+turnOf TimerStop = 1
+turnOf Switch = 2
+turnOf CallingRelease = 3
+turnOf IncumbentRelease = 4
+turnOf ReroutingRelease = 5
+turnOf SetupRequest = 6
+turnOf ConnectRequest = 6
+turnOf Rejection = 6
+
+-- b may stand in the place after a: it is none, or its turn is later (and a is not none)
+abbrev pub follows : Kind → Kind → Bool
+follows a b = eqb (turnOf b) 7 || ltb (turnOf a) (turnOf b)
+
+-- filled from the front, in the printed order
+abbrev pub inOrder : List Signal → Bool
+inOrder [] = true
+inOrder (a ∷ []) = true
+inOrder (a ∷ (b ∷ more)) = follows (a .kind) (b .kind) && inOrder (b ∷ more)
