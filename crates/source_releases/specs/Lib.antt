@@ -1,3 +1,4 @@
 pub mod Calling
 pub mod Called
 pub mod Expiry
+pub mod Witness

@@ -3,3 +3,4 @@ pub mod Path
 pub mod Connect
 pub mod Setup
 pub mod Ready
+pub mod Witness
