@@ -13,11 +13,11 @@ use Rattle.signal.specs.Choice.{pick}
 abbrev pub cause : ℕ → ReroutingCause
 cause n = record { number = n }
 
--- #1, release received from outside any rerouting domain
+-- #1, release received from outside any rerouting domain (5.3)
 abbrev pub outside : ReroutingCause
 outside = cause 1
 
--- #2, failed to recover the connection using domain-based rerouting
+-- #2, failed to recover the connection using domain-based rerouting (5.3)
 abbrev pub notRecovered : ReroutingCause
 notRecovered = cause 2
 
@@ -37,12 +37,12 @@ inProgress = cause 6
 abbrev pub unsupported : ReroutingCause
 unsupported = cause 8
 
--- a cause goes on: #1 without modification, any other as #2, none as none (6.2.4.2 case 3, 6.2.4.4 case 3)
+-- a cause goes on: #1 without modification, any other as #2, none as none (6.2.4.2 case 3, 6.2.4.4 case 3; decision 5)
 abbrev pub forwarded : ReceivedCause → SentCause
 forwarded NoCause = Absent
 forwarded (WithCause k) = pick (eqb (k .number) 1) (AsReceived k) (Numbered notRecovered)
 
--- a cause is said again: #1 as the number 1, any other as 2, none as none (01, "Release from the called side")
+-- a cause is said again: #1 as the number 1, any other as 2, none as none (01, "Release from the called side"; decision 5)
 abbrev pub restated : ReceivedCause → SentCause
 restated NoCause = Absent
 restated (WithCause k) = pick (eqb (k .number) 1) (Numbered outside) (Numbered notRecovered)

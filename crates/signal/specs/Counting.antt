@@ -1,10 +1,15 @@
 -- What a row of signals says, counted: the natural terms in which claims speak of signals. None of it mentions a state or a row. Assumes nothing.
 use Prim.Native.Nat.{ℕ, _+_}
+use mathlib.Core.Path.{_≡_}
 use mathlib.Core.Bool.{Bool, true, false, _&&_, _||_}
 use mathlib.Core.List.{List, [], _∷_, _++_}
 use lib.Dec.{eqb, ltb}
 use Rattle.signal.specs.declared.Kind.{Kind}
 use Rattle.signal.specs.declared.Kind.the-variants.{NoSignal, TimerStart, TimerStop, Switch, CallingRelease, IncumbentRelease, ReroutingRelease, SetupRequest, ConnectRequest, Rejection}
+use Rattle.signal.specs.declared.SentCause.{SentCause}
+use Rattle.signal.specs.declared.SentCause.the-variants.{Absent, Numbered, AsReceived}
+use Rattle.signal.specs.declared.ReceivedCause.{ReceivedCause}
+use Rattle.signal.specs.declared.ReceivedCause.the-variants.{WithCause}
 use Rattle.signal.specs.declared.CauseCode.{CauseCode}
 use Rattle.signal.specs.declared.CauseCode.the-variants.{Section66, CallRejected}
 use Rattle.signal.specs.declared.Signal.{Signal}
@@ -19,7 +24,7 @@ abbrev pub count : ℕ → List ℕ → ℕ
 count x [] = 0
 count x (y ∷ more) = one x y + count x more
 
--- the number of a kind (decision 16)
+-- the number of a kind, in the order of decision 16; the numbers are ours
 abbrev pub kindNumber : Kind → ℕ
 kindNumber NoSignal = 0
 kindNumber TimerStart = 1
@@ -79,3 +84,13 @@ abbrev pub inOrder : List Signal → Bool
 inOrder [] = true
 inOrder (a ∷ []) = true
 inOrder (a ∷ (b ∷ more)) = follows (a .kind) (b .kind) && inOrder (b ∷ more)
+
+-- a cause goes out "as received" only where that very cause came
+abbrev pub CameSo : ReceivedCause → SentCause → Type 0
+CameSo got Absent = Unit
+CameSo got (Numbered k) = Unit
+CameSo got (AsReceived k) = got ≡ WithCause k
+
+abbrev pub Honest : ReceivedCause → List Signal → Type 0
+Honest got [] = Unit
+Honest got (s ∷ more) = CameSo got (s .cause) × Honest got more

@@ -3,3 +3,4 @@ pub mod Causes
 pub mod Signals
 pub mod Numbers
 pub mod Counting
+pub mod Claims

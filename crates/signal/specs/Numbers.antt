@@ -40,7 +40,7 @@ crankbackNumber NoCrankback = 0
 crankbackNumber AlternateFound = 1
 crankbackNumber NoAlternate = 2
 
--- the one switchover behaviour of a soft reroute setup, code 1 (01, "Setup" row 1; "The trace")
+-- the one switchover behaviour of a soft reroute setup, code 1 (01, "Setup" row 1; "The trace"; 5.2)
 abbrev pub isClearing : Switchover → Bool
 isClearing s = eqb (s .code) 1
 
@@ -52,7 +52,7 @@ abbrev pub servicesOf : Wanted → Services
 servicesOf Unnamed = defaultServices
 servicesOf (Named s) = s
 
--- a later connection takes the last number plus 1 (01, "The table and its records"); at 65,535 there is none (108)
+-- a later connection takes the last number plus 1 (01, "The table and its records"); at 65,535 there is none
 abbrev pub freshAfter : ℕ → Fresh
 freshAfter last = pick (ltb last 65535) (Next (last + 1)) Spent
 

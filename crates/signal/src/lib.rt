@@ -6,7 +6,7 @@
 // Everything here is plain data by value. The meanings stand in specs/: Causes, Signals, Numbers.
 ghost use mathlib.Core.Path.{_≡_};
 ghost use Rattle.signal.specs.Causes.{forwarded, restated, passed};
-ghost use Rattle.signal.specs.Signals.{naming, releaseOf, callRejected, rejection};
+ghost use Rattle.signal.specs.Signals.{naming, releaseWith, rejection};
 ghost use Rattle.signal.specs.Numbers.{answerNumber, softNumber, freshAfter, isLate, isClearing, servicesOf};
 
 // A Rerouting cause, 5.3. The numbers that 01 names are constants of the type.
@@ -228,26 +228,14 @@ impl Signal {
     }
 
     // A release of the calling side (connection 0), the incumbent or the rerouting connection.
-    pub fn release(kind: Kind, connection: u16, cause: SentCause) -> Signal
-        ensures { λ r. ⌜ r ≡ releaseOf kind connection cause ⌝ }
+    pub fn release(kind: Kind, connection: u16, cause: SentCause, code: CauseCode) -> Signal
+        ensures { λ r. ⌜ r ≡ releaseWith kind connection cause code ⌝ }
     {
         Signal {
             kind: kind,
             connection: connection,
             cause: cause,
-            code: CauseCode::Section66,
-        }
-    }
-
-    // The rerouting connection is turned away: Cause code #21, and no Rerouting cause (6.2.6.2, D18-7).
-    pub fn call_rejected(connection: u16) -> Signal
-        ensures { λ r. ⌜ r ≡ callRejected connection ⌝ }
-    {
-        Signal {
-            kind: Kind::ReroutingRelease,
-            connection: connection,
-            cause: SentCause::Absent,
-            code: CauseCode::CallRejected,
+            code: code,
         }
     }
 

@@ -3,19 +3,23 @@
 use Prim.Native.Nat.{ℕ, _+_, _≤_, _<_}
 use native.Mathlib.Omega.{arith}
 use mathlib.Core.Path.{_≡_, refl, sym, ap, _∙_}
-use mathlib.Core.Bool.{Bool, true, false, false≢true, true≢false}
+use mathlib.Core.Bool.{Bool, true, false, not, _&&_, _||_, false≢true, true≢false}
 use mathlib.Core.List.{List, [], _∷_, _++_}
-use mathlib.Core.Logic.{_↔_}
+use mathlib.Core.Logic.{_↔_, _⊎_, inl, inr}
 use lib.Dec.{eqb, ltb}
 use lib.ListN.{length}
-use borrow.Author.Tests.{lt-ltb, le-ltb, ltb-true, ltb-false, eqb-true}
+use borrow.Author.Tests.{lt-ltb, le-ltb, ltb-true, ltb-false, leb-false, eqb-true}
 use Rattle.signal.specs.declared.Answer.{Answer}
+use Rattle.signal.specs.declared.Soft.{Soft}
+use Rattle.signal.specs.declared.Fresh.{Fresh}
 use Rattle.signal.specs.declared.Fresh.the-variants.{Next, Spent}
+use Rattle.signal.specs.declared.Kind.the-variants.{SetupRequest}
 use Rattle.signal.specs.declared.Signal.{Signal}
 use Rattle.signal.specs.Choice.{pick}
 use Rattle.signal.specs.Signals.{places}
-use Rattle.signal.specs.Numbers.{answerNumber, freshAfter}
-use Rattle.signal.specs.Counting.{one, count, endedSent}
+use Rattle.signal.specs.Numbers.{answerNumber, freshAfter, isClearing, isLate}
+use Rattle.signal.specs.Counting.{one, count, ofKind, named, endedSent}
+use Rattle.signal.proofs.Claims.{spent-exactly, next-exactly}
 use Rattle.source_states.specs.declared.State.{State}
 use Rattle.source_states.specs.declared.Event.{Event}
 use Rattle.source_states.specs.declared.Event.the-variants.{Trigger, PathFound, NoPath, Connect, Setup, FromCalling, FromCalled, Ready, Expiry}
@@ -23,10 +27,12 @@ use Rattle.source_states.specs.declared.Change.{Change}
 use Rattle.source_states.specs.declared.Change.the-variants.{Refuses, Stays, Moves, Gives, Accepts, Ends}
 use Rattle.source_states.specs.declared.Row.{Row}
 use Rattle.source_states.specs.States.{isNull, heldIn}
-use Rattle.source_states.specs.Checks.{meaningless, namesNotHeld, numbersSpent, firstOf, reported}
-use Rattle.source_states.specs.Lawful.{Lawful, Quiet, Takes, GoesOn, Rejects, answerTo, stateAfter, givenBy, storedBy, endedGot}
-use Rattle.source_requests.proofs.Laws.{trigger-lawful, path-lawful, no-path-lawful, connect-lawful, setup-lawful, ready-lawful}
-use Rattle.source_releases.proofs.Laws.{expiry-lawful, calling-lawful, called-lawful}
+use Rattle.source_states.specs.Checks.{meaningless, namesNotHeld, asksNumber, numbersSpent, isSpent, isBusy, storedWanted, firstOf, reported, AllAre}
+use Rattle.source_states.specs.Lawful.{Lawful, Quiet, Takes, GoesOn, Rejects, answerTo, stateAfter, newNumber, givenBy, storedBy, endedGot}
+use Rattle.source_requests.proofs.Laws.{trigger-lawful, path-lawful, no-path-lawful, connect-lawful, ready-lawful}
+use Rattle.source_setups.proofs.Laws.{setup-lawful}
+use Rattle.source_releases.proofs.Laws.{called-lawful}
+use Rattle.source_endings.proofs.Laws.{calling-lawful, expiry-lawful}
 use Rattle.source.specs.declared.Call.{Call}
 use Rattle.source.specs.declared.Outcome.{Outcome}
 use Rattle.source.specs.Record.{emptied, callAfter, carriedOut}
@@ -111,13 +117,14 @@ remote-stored c (Gives s n) live = refl
 remote-stored c (Accepts s n number) live = refl
 remote-stored c Ends live = absurd (true≢false live)
 
+-- no signals name no connections
+none-named : (x : ℕ) (sent : List Signal) → length sent ≡ 0 → AllAre x (named sent)
+none-named x [] p = tt
+none-named x (s ∷ more) p = absurd (omega arith)
+
 -- the next number is the last plus one
 next-is : (last n : ℕ) → freshAfter last ≡ Next n → n ≡ last + 1
-next-is last n = by-test (ltb last 65535)
-  where
-    by-test : (b : Bool) → pick b (Next (last + 1)) Spent ≡ Next n → n ≡ last + 1
-    by-test true p = cc
-    by-test false p = cc
+next-is last n p = next-exactly last n .0 p .0
 
 last-given : (c : Call) (ch : Change) → Takes (freshAfter (c .last)) ch → isNull (callAfter c ch .state) ≡ false → (callAfter c ch .last ≡ c .last + length (givenBy ch)) × (length (givenBy ch) ≤ 1)
 last-given c (Refuses a) t live = omega arith
@@ -126,6 +133,15 @@ last-given c (Moves s) t live = omega arith
 last-given c (Gives s n) t live = omega (arith, next-is (c .last) n t)
 last-given c (Accepts s n number) t live = omega (arith, next-is (c .last) n t)
 last-given c Ends t live = absurd (true≢false live)
+
+-- a setup that is sent names the new last number
+new-last : (c : Call) (ch : Change) (sent : List Signal) → length (ofKind SetupRequest sent) + length (storedBy ch) ≡ length (givenBy ch) → AllAre (newNumber ch) (named (ofKind SetupRequest sent)) → AllAre (callAfter c ch .last) (named (ofKind SetupRequest sent))
+new-last c (Refuses a) sent n all = none-named _ (ofKind SetupRequest sent) (omega arith)
+new-last c Stays sent n all = none-named _ (ofKind SetupRequest sent) (omega arith)
+new-last c (Moves s) sent n all = none-named _ (ofKind SetupRequest sent) (omega arith)
+new-last c (Gives s m) sent n all = all
+new-last c (Accepts s m number) sent n all = all
+new-last c Ends sent n all = none-named _ (ofKind SetupRequest sent) (omega arith)
 
 -- what the record says was given and received, and what the change says
 given-same : (c : Call) (ch : Change) → Takes (freshAfter (c .last)) ch → pick (ltb (c .last) (callAfter c ch .last)) (callAfter c ch .last ∷ []) [] ≡ givenBy ch
@@ -224,6 +240,41 @@ last-kept c (Gives s n) t x h = omega (arith, next-is (c .last) n t)
 last-kept c (Accepts s n number) t x h = omega (arith, next-is (c .last) n t)
 last-kept c Ends t x h = absurd (omega arith)
 
+-- 108's check, and its words
+no-number : (asks : Bool) (last : ℕ) → (asks && isSpent (freshAfter last) ≡ true) ↔ ((asks ≡ true) × (65535 ≤ last))
+no-number true last = (λ p. (refl, spent-exactly last .0 (is-spent (freshAfter last) p)), λ p. rw (spent-exactly last .1 (p .1)))
+  where
+    is-spent : (f : Fresh) → isSpent f ≡ true → f ≡ Spent
+    is-spent (Next n) p = absurd (false≢true p)
+    is-spent Spent p = refl
+no-number false last = (λ p. absurd (false≢true p), λ p. absurd (false≢true (p .0)))
+
+-- a number that is stored is greater than the one on record
+module _ (soft : Soft) (remote : ℕ) (next : Fresh) (s : State) where
+  abbrev Raised : ℕ → Type 0
+  Raised n = (n ≡ remote) ⊎ (remote < n)
+
+  by-checks : (number : ℕ) (without-meaning clears late busy spent : Bool) → (late ≡ false → remote < number) → Raised (claim.orElse remote (pick (without-meaning || (not (clears && (not late && not busy)) || spent)) [] (number ∷ [])))
+  by-checks number true clears late busy spent f = inl refl
+  by-checks number false false late busy spent f = inl refl
+  by-checks number false true true busy spent f = inl refl
+  by-checks number false true false true spent f = inl refl
+  by-checks number false true false false true f = inl refl
+  by-checks number false true false false false f = inr (f refl)
+
+  stored-greater : (e : Event) → Raised (claim.orElse remote (storedWanted soft remote next s e))
+  stored-greater Trigger = inl refl
+  stored-greater PathFound = inl refl
+  stored-greater NoPath = inl refl
+  stored-greater (Connect c agreed) = inl refl
+  stored-greater (Setup code number) =
+      by-checks number (meaningless soft s (Setup code number)) (isClearing code) (isLate number remote) (isBusy s) (isSpent next)
+      (leb-false number remote)
+  stored-greater (FromCalling cause) = inl refl
+  stored-greater (FromCalled c cause crankback) = inl refl
+  stored-greater Ready = inl refl
+  stored-greater Expiry = inl refl
+
 -- the three checks at a record
 abbrev check-106 : Call → Event → Bool
 check-106 c e = meaningless (c .soft) (c .state) e
@@ -292,13 +343,18 @@ pub given-107 : claim.Given107
 given-107 c e o r = rw r (first-107 _ (check-106 c e) (check-107 c e) (check-108 c e) (law c e .answered))
 
 pub given-108 : claim.Given108
-given-108 c e o r = rw r (first-108 _ (check-106 c e) (check-107 c e) (check-108 c e) (law c e .answered))
+given-108 c e o r =
+    rw r (simp (← (no-number (asksNumber (c .remote) (c .state) e) (c .last))) (first-108 _ (check-106 c e) (check-107 c e) (check-108 c e) (law c e .answered)))
 
 pub given-0 : claim.Given0
-given-0 c e o r = rw r (first-0 _ (check-106 c e) (check-107 c e) (check-108 c e) (law c e .answered))
+given-0 c e o r =
+    rw r (simp (← (no-number (asksNumber (c .remote) (c .state) e) (c .last))) (first-0 _ (check-106 c e) (check-107 c e) (check-108 c e) (law c e .answered)))
 
 pub signals-in-order : claim.SignalsInOrder
-signals-in-order c e o r = rw r (law c e .four, law c e .ordered)
+signals-in-order c e o r = rw r (law c e .four, (law c e .ordered, law c e .blank))
+
+pub two-at-most : claim.TwoAtMost
+two-at-most c e o r = rw r (law c e .two)
 
 pub timer-starts : claim.TimerStarts
 timer-starts c e o r = rw (r, state-same c (rowOf c e .change)) (law c e .starts)
@@ -308,6 +364,19 @@ timer-stops c e o r = rw (r, state-same c (rowOf c e .change)) (law c e .stops)
 
 pub switch-names-incumbent : claim.SwitchNamesIncumbent
 switch-names-incumbent c e o r = rw (r, state-same c (rowOf c e .change)) (law c e .switched)
+
+pub signals-name-their-own : claim.SignalsNameTheirOwn
+signals-name-their-own c e o r =
+    rw (r, state-same c (rowOf c e .change)) (
+      law c e .incumbents,
+      (law c e .reroutings, (law c e .connects, new-last c (rowOf c e .change) (rowOf c e .signals) (law c e .given) (law c e .setups))),
+    )
+
+pub calling-side-told : claim.CallingSideTold
+calling-side-told c e o r = rw (r, state-same c (rowOf c e .change)) (law c e .told)
+
+pub causes-as-received : claim.CausesAsReceived
+causes-as-received c e o r = rw r (law c e .honest)
 
 pub rejected-by-first-row : claim.RejectedByFirstRow
 rejected-by-first-row c e o r = rw r (law c e .rejected)
@@ -326,6 +395,10 @@ key-and-services-stay c e o r = rw r (services-stay c (rowOf c e .change))
 
 pub remote-by-accepted-setup : claim.RemoteByAcceptedSetup
 remote-by-accepted-setup c e o r = rw (r, ← (law c e .stored)) (remote-stored c (rowOf c e .change))
+
+pub remote-grows : claim.RemoteGrows
+remote-grows c e o r live =
+    rw (remote-by-accepted-setup c e o r live) (stored-greater (c .soft) (c .remote) (freshAfter (c .last)) (c .state) e)
 
 pub last-by-one : claim.LastByOne
 last-by-one c e o r = rw (r, ← (law c e .stored), law c e .given) (last-given c (rowOf c e .change) (law c e .takes))

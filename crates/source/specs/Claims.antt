@@ -1,27 +1,29 @@
--- The claims on one event at one call. Each stands under the requirement that it answers, cited by place and said again in our words; none mentions a row.
+-- The claims on one event at one call. "01" is the scope document, a demand one of the three in README.md, "decision N" a point of docs/DECISIONS.md. Each stands under the requirement that it answers, cited by place and said again in our words; none mentions a row.
 -- They speak of every record, fit or not, and of every event, and of whatever `Call::handle` or the event's own method returns: `Returned` is their
--- contract. Proofs: proofs/Claims.antt. Assumes nothing.
-use Prim.Native.Nat.{ℕ, _+_, _≤_}
+-- contract. What the claims leave open (that a trigger in Idle moves at all, say) the definitions settle, and the witnesses of Appendix C-1 and Annex D beside
+-- the rows. Proofs: proofs/Claims.antt. Assumes nothing.
+use Prim.Native.Nat.{ℕ, _+_, _≤_, _<_}
 use mathlib.Core.Path.{_≡_}
-use mathlib.Core.Bool.{true, false}
+use mathlib.Core.Bool.{true, false, not}
 use mathlib.Core.List.{List, [], _∷_, _++_}
-use mathlib.Core.Logic.{_↔_}
+use mathlib.Core.Logic.{_↔_, _⊎_}
 use lib.Dec.{ltb}
 use lib.ListN.{length}
 use Rattle.signal.specs.declared.Soft.the-variants.{NoSoft}
 use Rattle.signal.specs.declared.Services.{Services}
 use Rattle.signal.specs.declared.Wanted.{Wanted}
 use Rattle.signal.specs.declared.Wanted.the-variants.{Unnamed, Named}
-use Rattle.signal.specs.declared.Kind.the-variants.{TimerStart, TimerStop, Switch, SetupRequest, Rejection}
+use Rattle.signal.specs.declared.Kind.the-variants.{NoSignal, TimerStart, TimerStop, Switch, CallingRelease, IncumbentRelease, ReroutingRelease, SetupRequest, ConnectRequest, Rejection}
 use Rattle.signal.specs.declared.Signal.{Signal}
 use Rattle.signal.specs.Choice.{pick}
 use Rattle.signal.specs.Signals.{places}
 use Rattle.signal.specs.Numbers.{answerNumber, freshAfter}
-use Rattle.signal.specs.Counting.{count, ofKind, named, endedSent, withCode21, inOrder}
+use Rattle.signal.specs.Counting.{Honest, count, ofKind, named, endedSent, withCode21, inOrder}
 use Rattle.source_states.specs.declared.State.the-variants.{Idle}
 use Rattle.source_states.specs.declared.Event.{Event}
-use Rattle.source_states.specs.States.{isNull, isHard, heldIn, incumbentOf}
-use Rattle.source_states.specs.Checks.{meaningless, namesNotHeld, numbersSpent, rejectionWanted, storedWanted, code21Wanted, reported, isExpiry, AllAre, startsWanted, stopsWanted}
+use Rattle.source_states.specs.States.{isNull, isHard, heldIn, incumbentOf, reroutingOf}
+use Rattle.source_states.specs.Checks.{meaningless, namesNotHeld, asksNumber, AllIncumbent, callingWanted, receivedIn, rejectionWanted, storedWanted, code21Wanted, reported, isExpiry, AllAre, startsWanted, stopsWanted}
+use Rattle.source_states.specs.Lawful.{Nones}
 use Rattle.source.specs.declared.Call.{Call}
 use Rattle.source.specs.declared.Outcome.{Outcome}
 use Rattle.source.specs.Record.{emptied, openedFor}
@@ -57,7 +59,8 @@ OpensWithServices =
 abbrev pub RefusalsChangeNothing : Type 0
 RefusalsChangeNothing = Always (λ c e o. (answered o ≡ 0 → ⊥) → (o .call ≡ c) × (o .signals ≡ places []))
 
--- 01, "Numbers of refusal": 106, 107 and 108, each in the document's words (source_states, specs/Checks).
+-- 01, "Numbers of refusal": 106, 107 and 108, each in the document's words, with decision 26 for Null (source_states, specs/Checks). 108 is "path found", or a
+-- setup that would otherwise be accepted, when the last number is 65,535.
 abbrev pub IsMeaningless : Call → Event → Type 0
 IsMeaningless c e = meaningless (c .soft) (c .state) e ≡ true
 
@@ -65,7 +68,7 @@ abbrev pub NamesNotHeld : Call → Event → Type 0
 NamesNotHeld c e = namesNotHeld (c .state) e ≡ true
 
 abbrev pub HasNoNumber : Call → Event → Type 0
-HasNoNumber c e = numbersSpent (c .remote) (freshAfter (c .last)) (c .state) e ≡ true
+HasNoNumber c e = (asksNumber (c .remote) (c .state) e ≡ true) × (65535 ≤ c .last)
 
 -- 01, "Numbers of refusal": each number is given exactly when its check applies and no earlier one does, and 0 exactly when none applies.
 abbrev pub Given106 : Type 0
@@ -81,9 +84,14 @@ abbrev pub Given0 : Type 0
 Given0 =
     Always (λ c e o. (answered o ≡ 0) ↔ ((IsMeaningless c e → ⊥) × ((NamesNotHeld c e → ⊥) × (HasNoNumber c e → ⊥))))
 
--- 01, "Signals": four places, filled from the front in the printed order; unused places are "none" and stand behind.
+-- 01, "Signals": four places, filled from the front in the printed order; unused places stand behind, and each is "none" in all its parts (decision 17).
 abbrev pub SignalsInOrder : Type 0
-SignalsInOrder = Always (λ c e o. (length (o .signals) ≡ 4) × (inOrder (o .signals) ≡ true))
+SignalsInOrder =
+    Always (λ c e o. (length (o .signals) ≡ 4) × ((inOrder (o .signals) ≡ true) × Nones (ofKind NoSignal (o .signals))))
+
+-- Decision 18: no event fills more than two of the four places.
+abbrev pub TwoAtMost : Type 0
+TwoAtMost = Always (λ c e o. 2 ≤ length (ofKind NoSignal (o .signals)))
 
 -- 01, "Signals": timer start is sent, once, exactly on entering the Hard states from outside them.
 abbrev pub TimerStarts : Type 0
@@ -95,7 +103,28 @@ TimerStops = Always (λ c e o. ofKind TimerStop (o .signals) ≡ stopsWanted (is
 
 -- 01, "Signals": a switch names the connection switched in: the incumbent after the event.
 abbrev pub SwitchNamesIncumbent : Type 0
-SwitchNamesIncumbent = Always (λ c e o. AllAre (incumbentOf (o .call .state)) (named (ofKind Switch (o .signals))))
+SwitchNamesIncumbent = Always (λ c e o. AllIncumbent (o .call .state) (named (ofKind Switch (o .signals))))
+
+-- 01, "Signals" and decision 17: a release names its own connection, as held before; a connect the rerouting connection, and a setup the new number, as held after.
+abbrev pub SignalsNameTheirOwn : Type 0
+SignalsNameTheirOwn =
+    Always
+    (λ c e o.
+    AllAre (incumbentOf (c .state)) (named (ofKind IncumbentRelease (o .signals)))
+    × (AllAre (reroutingOf (c .state)) (named (ofKind ReroutingRelease (o .signals)))
+    × (AllAre (reroutingOf (o .call .state)) (named (ofKind ConnectRequest (o .signals)))
+    × AllAre (o .call .last) (named (ofKind SetupRequest (o .signals))))))
+
+-- 01, "Timer expiry" and the release rows: the calling side is released, once, exactly when the call ends otherwise than by a release from that side.
+abbrev pub CallingSideTold : Type 0
+CallingSideTold =
+    Always
+    (λ c e o.
+    named (ofKind CallingRelease (o .signals)) ≡ callingWanted (not (isNull (c .state))) (not (isNull (o .call .state))) e)
+
+-- 01, "Signals": a Rerouting cause goes out "as received" only where that very cause came.
+abbrev pub CausesAsReceived : Type 0
+CausesAsReceived = Always (λ c e o. Honest (receivedIn e) (o .signals))
 
 -- 01, "Setup": a setup is rejected exactly by the first of rows 1 to 3 that it breaks, with #8, #5 or #6, and nothing else is ever rejected.
 abbrev pub RejectedByFirstRow : Type 0
@@ -136,6 +165,12 @@ RemoteByAcceptedSetup =
     isNull (o .call .state) ≡ false →
     o .call .remote ≡ orElse (c .remote) (storedWanted (c .soft) (c .remote) (freshAfter (c .last)) (c .state) e))
 
+-- 01, "Setup" row 2 and Demand 3: while the call lives, the remote number never falls, and an accepted setup raises it.
+abbrev pub RemoteGrows : Type 0
+RemoteGrows =
+    Always
+    (λ c e o. isNull (o .call .state) ≡ false → (o .call .remote ≡ c .remote) ⊎ (c .remote < o .call .remote))
+
 -- how many setups an event sends and accepts
 abbrev pub setupsMade : Call → Event → Outcome → ℕ
 setupsMade c e o =
@@ -166,19 +201,19 @@ Balances =
     (λ c e o.
     (x : ℕ) → count x (heldIn (c .state)) + count x (given c o) ≡ count x (heldIn (o .call .state)) + count x (ended e o))
 
--- 01, 101, of one record: held numbers lie between 1 and the last, and two held ones differ
+-- the part of 01's 101 that speaks of held numbers: they lie between 1 and the last, and two held ones differ
 pub record Sound (c : Call) : Type 0 where
   pub within : (x : ℕ) → 1 ≤ count x (heldIn (c .state)) → (1 ≤ x) × (x ≤ c .last)
   pub differ : (x : ℕ) → count x (heldIn (c .state)) ≤ 1
 
--- Demand 3, for one event at a sound record: a number that was held or is given is then held or has ended, exactly once; and no other number ends.
+-- Demand 3, for one event at a sound record: a number that was held or is given is then held or has ended, exactly once; any other number is neither.
 abbrev pub HeldOrEndedOnce : Type 0
 HeldOrEndedOnce =
     Always
     (λ c e o.
     Sound c → (x : ℕ) →
     (1 ≤ count x (heldIn (c .state)) + count x (given c o) → count x (heldIn (o .call .state)) + count x (ended e o) ≡ 1)
-    × (count x (heldIn (c .state)) + count x (given c o) ≡ 0 → count x (ended e o) ≡ 0))
+    × (count x (heldIn (c .state)) + count x (given c o) ≡ 0 → count x (heldIn (o .call .state)) + count x (ended e o) ≡ 0))
 
 -- 01, "Release from the called side": the connection whose release was received is ended, and is not released again.
 abbrev pub ReceivedNotReleased : Type 0

@@ -1,7 +1,7 @@
 // The source node's call: its record, and one method for each event. A method takes the old record and hands back the new one, beside the answer and
 // the four signals of the event.
 //
-// Any record may be given, fit or not: the methods have no `requires`. What an event does stands in the rows (source_requests, source_releases); here a
+// Any record may be given, fit or not: the methods have no `requires`. What an event does stands in the rows (source_requests, source_setups, source_releases, source_endings); here a
 // row is carried out on the record, in one place for all events.
 ghost use mathlib.Core.Path.{_≡_};
 ghost use Rattle.source.specs.Record.{movedTo, callAfter, carriedOut, openedFor};
@@ -146,7 +146,7 @@ impl Call {
         let soft = self.soft;
         let state = self.state;
         let next = Fresh::after(self.last);
-        self.carried(source_requests::setup_row(soft, code, number, self.remote, next, state))
+        self.carried(source_setups::setup_row(soft, code, number, self.remote, next, state))
     }
 
     pub fn ready(self) -> Outcome
@@ -160,14 +160,14 @@ impl Call {
         ensures { λ r. ⌜ r ≡ eventOf self Expiry ⌝ }
     {
         let state = self.state;
-        self.carried(source_releases::expiry_row(state))
+        self.carried(source_endings::expiry_row(state))
     }
 
     pub fn calling_release(self, cause: ReceivedCause) -> Outcome
         ensures { λ r. ⌜ r ≡ eventOf self (FromCalling cause) ⌝ }
     {
         let state = self.state;
-        self.carried(source_releases::calling_row(self.hard, cause, state))
+        self.carried(source_endings::calling_row(self.hard, cause, state))
     }
 
     pub fn called_release(

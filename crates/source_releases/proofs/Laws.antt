@@ -1,10 +1,9 @@
--- Every row of a release or an expiry keeps the laws, whatever it is. Assumes nothing.
+-- Every row of a called-side release keeps the laws, whatever it is. Assumes nothing.
 use Prim.Native.Nat.{ℕ, _+_}
 use native.Mathlib.Omega.{arith}
 use mathlib.Core.Path.{_≡_, refl}
 use mathlib.Core.Bool.{Bool, true, false}
 use lib.Dec.{eqb}
-use borrow.Author.Tests.{eq-eqb, eqb-true}
 use Rattle.signal.specs.declared.Soft.{Soft}
 use Rattle.signal.specs.declared.Fresh.{Fresh}
 use Rattle.signal.specs.declared.Fresh.the-variants.{Next, Spent}
@@ -14,49 +13,11 @@ use Rattle.signal.specs.declared.Crankback.{Crankback}
 use Rattle.signal.specs.declared.Crankback.the-variants.{NoCrankback, AlternateFound, NoAlternate}
 use Rattle.source_states.specs.declared.State.{State}
 use Rattle.source_states.specs.declared.State.the-variants.{Null, Idle, HardTriggered, HardProceeding, SoftTriggered, SoftProceeding, SoftInitiated, Awaiting}
-use Rattle.source_states.specs.declared.Event.{Event}
-use Rattle.source_states.specs.declared.Event.the-variants.{FromCalling, FromCalled, Expiry}
+use Rattle.source_states.specs.declared.Event.the-variants.{FromCalled}
 use Rattle.source_states.specs.Lawful.{Lawful}
-use Rattle.source_releases.specs.Expiry.{expiryRow}
-use Rattle.source_releases.specs.Calling.{callingRow}
+use Rattle.signal.proofs.Claims.{forwarded-came, restated-came}
+use Rattle.source_states.proofs.Tests.{itself, by-one, by-two}
 use Rattle.source_releases.specs.Called.{calledRow}
-
-itself : (n : ℕ) → eqb n n ≡ true
-itself n = eq-eqb n n refl
-
--- what holds of the one held connection, and of any other number, holds of each
-by-one : (P : ℕ → Type 0) (c x : ℕ) → P x → (eqb c x ≡ false → P c) → P c
-by-one P c x own other = by-test (eqb c x) refl
-  where
-    by-test : (b : Bool) → eqb c x ≡ b → P c
-    by-test true p = rw (eqb-true c x p) own
-    by-test false p = other p
-
--- the same of the incumbent, the rerouting connection where it is another, and any other number
-by-two : (P : ℕ → Type 0) (c i r : ℕ) → P i → (eqb r i ≡ false → P r) → (eqb c i ≡ false → eqb c r ≡ false → P c) → P c
-by-two P c i r incumbent rerouting other =
-    by-one P c i incumbent (λ p. by-one (λ x. eqb x i ≡ false → P x) c r rerouting (λ q p'. other p' q) p)
-
-module _ (hard : Bool) (soft : Soft) (remote : ℕ) (next : Fresh) where
-  pub expiry-lawful : (s : State) → Lawful hard soft remote next s Expiry (expiryRow s)
-  expiry-lawful Null = search arith
-  expiry-lawful (Idle i) = search arith
-  expiry-lawful HardTriggered = search arith
-  expiry-lawful (HardProceeding r) = search arith
-  expiry-lawful (SoftTriggered i) = search arith
-  expiry-lawful (SoftProceeding i r) = search arith
-  expiry-lawful (SoftInitiated i r) = search arith
-  expiry-lawful (Awaiting i r) = search arith
-
-  pub calling-lawful : (cause : ReceivedCause) (s : State) → Lawful hard soft remote next s (FromCalling cause) (callingRow hard cause s)
-  calling-lawful cause Null = search arith
-  calling-lawful cause (Idle i) = search arith
-  calling-lawful cause HardTriggered = search arith
-  calling-lawful cause (HardProceeding r) = search arith
-  calling-lawful cause (SoftTriggered i) = search arith
-  calling-lawful cause (SoftProceeding i r) = search arith
-  calling-lawful cause (SoftInitiated i r) = search arith
-  calling-lawful cause (Awaiting i r) = search arith
 
 -- a called-side release of c, held to the laws
 abbrev Called : Bool → Soft → ℕ → Fresh → State → ReceivedCause → Crankback → ℕ → Type 0
@@ -66,68 +27,68 @@ Called hard soft remote next s cause crankback c =
 -- by the connection that the release names
 module _ (soft : Soft) (remote : ℕ) where
   idle-own : (hard : Bool) (next : Fresh) (cause : ReceivedCause) (crankback : Crankback) (i : ℕ) → Called hard soft remote next (Idle i) cause crankback i
-  idle-own true next NoCause crankback i = simp itself (search (arith, itself))
-  idle-own false next NoCause crankback i = simp itself (search (arith, itself))
-  idle-own hard next (WithCause k) crankback i = simp itself (search (arith, itself))
+  idle-own true next NoCause crankback i = simp itself (search (arith, forwarded-came, restated-came, itself))
+  idle-own false next NoCause crankback i = simp itself (search (arith, forwarded-came, restated-came, itself))
+  idle-own hard next (WithCause k) crankback i = simp itself (search (arith, forwarded-came, restated-came, itself))
 
   hard-own : (hard : Bool) (next : Fresh) (cause : ReceivedCause) (crankback : Crankback) (r : ℕ) → Called hard soft remote next (HardProceeding r) cause crankback r
-  hard-own hard (Next n) NoCause NoCrankback r = simp itself (search (arith, itself))
-  hard-own hard (Next n) NoCause AlternateFound r = simp itself (search (arith, itself))
-  hard-own hard Spent NoCause NoCrankback r = simp itself (search (arith, itself))
-  hard-own hard Spent NoCause AlternateFound r = simp itself (search (arith, itself))
-  hard-own hard next NoCause NoAlternate r = simp itself (search (arith, itself))
-  hard-own hard next (WithCause k) crankback r = simp itself (search (arith, itself))
+  hard-own hard (Next n) NoCause NoCrankback r = simp itself (search (arith, forwarded-came, restated-came, itself))
+  hard-own hard (Next n) NoCause AlternateFound r = simp itself (search (arith, forwarded-came, restated-came, itself))
+  hard-own hard Spent NoCause NoCrankback r = simp itself (search (arith, forwarded-came, restated-came, itself))
+  hard-own hard Spent NoCause AlternateFound r = simp itself (search (arith, forwarded-came, restated-came, itself))
+  hard-own hard next NoCause NoAlternate r = simp itself (search (arith, forwarded-came, restated-came, itself))
+  hard-own hard next (WithCause k) crankback r = simp itself (search (arith, forwarded-came, restated-came, itself))
 
   proceeding-incumbent : (hard : Bool) (next : Fresh) (cause : ReceivedCause) (crankback : Crankback) (i r : ℕ) → Called hard soft remote next (SoftProceeding i r) cause crankback i
-  proceeding-incumbent true next NoCause crankback i r = simp itself (search (arith, itself))
-  proceeding-incumbent true next (WithCause k) crankback i r = simp itself (search (arith, itself))
-  proceeding-incumbent false next cause crankback i r = simp itself (search (arith, itself))
+  proceeding-incumbent true next NoCause crankback i r = simp itself (search (arith, forwarded-came, restated-came, itself))
+  proceeding-incumbent true next (WithCause k) crankback i r = simp itself (search (arith, forwarded-came, restated-came, itself))
+  proceeding-incumbent false next cause crankback i r = simp itself (search (arith, forwarded-came, restated-came, itself))
 
   proceeding-rerouting : (hard : Bool) (next : Fresh) (cause : ReceivedCause) (crankback : Crankback) (i r : ℕ) → eqb r i ≡ false → Called hard soft remote next (SoftProceeding i r) cause crankback r
-  proceeding-rerouting hard next cause NoCrankback i r p = simp (p, itself) (search (arith, p, itself))
-  proceeding-rerouting hard (Next n) cause AlternateFound i r p = simp (p, itself) (search (arith, p, itself))
-  proceeding-rerouting hard Spent cause AlternateFound i r p = simp (p, itself) (search (arith, p, itself))
-  proceeding-rerouting hard next cause NoAlternate i r p = simp (p, itself) (search (arith, p, itself))
+  proceeding-rerouting hard next cause NoCrankback i r p = simp (p, itself) (search (arith, forwarded-came, restated-came, p, itself))
+  proceeding-rerouting hard (Next n) cause AlternateFound i r p = simp (p, itself) (search (arith, forwarded-came, restated-came, p, itself))
+  proceeding-rerouting hard Spent cause AlternateFound i r p = simp (p, itself) (search (arith, forwarded-came, restated-came, p, itself))
+  proceeding-rerouting hard next cause NoAlternate i r p = simp (p, itself) (search (arith, forwarded-came, restated-came, p, itself))
 
   initiated-incumbent : (hard : Bool) (next : Fresh) (cause : ReceivedCause) (crankback : Crankback) (i r : ℕ) → Called hard soft remote next (SoftInitiated i r) cause crankback i
-  initiated-incumbent true next NoCause crankback i r = simp itself (search (arith, itself))
-  initiated-incumbent true next (WithCause k) crankback i r = simp itself (search (arith, itself))
-  initiated-incumbent false next cause crankback i r = simp itself (search (arith, itself))
+  initiated-incumbent true next NoCause crankback i r = simp itself (search (arith, forwarded-came, restated-came, itself))
+  initiated-incumbent true next (WithCause k) crankback i r = simp itself (search (arith, forwarded-came, restated-came, itself))
+  initiated-incumbent false next cause crankback i r = simp itself (search (arith, forwarded-came, restated-came, itself))
 
   awaiting-incumbent : (hard : Bool) (next : Fresh) (cause : ReceivedCause) (crankback : Crankback) (i r : ℕ) → Called hard soft remote next (Awaiting i r) cause crankback i
-  awaiting-incumbent hard next NoCause crankback i r = simp itself (search (arith, itself))
+  awaiting-incumbent hard next NoCause crankback i r = simp itself (search (arith, forwarded-came, restated-came, itself))
   awaiting-incumbent hard next (WithCause k) crankback i r = by-four (eqb (k .number) 4) refl
     where
       by-four : (b : Bool) → eqb (k .number) 4 ≡ b → Called hard soft remote next (Awaiting i r) (WithCause k) crankback i
-      by-four true q = simp (itself, q) (search (arith, itself, q))
-      by-four false q = simp (itself, q) (search (arith, itself, q))
+      by-four true q = simp (itself, q) (search (arith, forwarded-came, restated-came, itself, q))
+      by-four false q = simp (itself, q) (search (arith, forwarded-came, restated-came, itself, q))
 
   awaiting-rerouting : (hard : Bool) (next : Fresh) (cause : ReceivedCause) (crankback : Crankback) (i r : ℕ) → eqb r i ≡ false → Called hard soft remote next (Awaiting i r) cause crankback r
-  awaiting-rerouting hard next NoCause crankback i r p = simp (p, itself) (search (arith, p, itself))
-  awaiting-rerouting hard next (WithCause k) crankback i r p = simp (p, itself) (search (arith, p, itself))
+  awaiting-rerouting hard next NoCause crankback i r p = simp (p, itself) (search (arith, forwarded-came, restated-came, p, itself))
+  awaiting-rerouting hard next (WithCause k) crankback i r p = simp (p, itself) (search (arith, forwarded-came, restated-came, p, itself))
 
   pub called-lawful : (hard : Bool) (next : Fresh) (c : ℕ) (cause : ReceivedCause) (crankback : Crankback) (s : State) → Called hard soft remote next s cause crankback c
   called-lawful hard next c cause crankback Null = search arith
   called-lawful hard next c cause crankback (Idle i) =
-      by-one (Called hard soft remote next (Idle i) cause crankback) c i (idle-own hard next cause crankback i) (λ p. simp p (search (arith, p)))
+      by-one (Called hard soft remote next (Idle i) cause crankback) c i (idle-own hard next cause crankback i) (λ p. simp p (search (arith, forwarded-came, restated-came, p)))
   called-lawful hard next c cause crankback HardTriggered = search arith
   called-lawful hard next c cause crankback (HardProceeding r) =
       by-one (Called hard soft remote next (HardProceeding r) cause crankback) c r (hard-own hard next cause crankback r)
-      (λ p. simp p (search (arith, p)))
+      (λ p. simp p (search (arith, forwarded-came, restated-came, p)))
   called-lawful hard next c cause crankback (SoftTriggered i) =
-      by-one (Called hard soft remote next (SoftTriggered i) cause crankback) c i (simp itself (search (arith, itself))) (λ p. simp p (search (arith, p)))
+      by-one (Called hard soft remote next (SoftTriggered i) cause crankback) c i (simp itself (search (arith, forwarded-came, restated-came, itself))) (λ p. simp p (search (arith, forwarded-came, restated-came, p)))
   called-lawful hard next c cause crankback (SoftProceeding i r) =
       by-two (Called hard soft remote next (SoftProceeding i r) cause crankback) c i r
       (proceeding-incumbent hard next cause crankback i r)
       (proceeding-rerouting hard next cause crankback i r)
-      (λ p q. simp (p, q) (search (arith, p, q)))
+      (λ p q. simp (p, q) (search (arith, forwarded-came, restated-came, p, q)))
   called-lawful hard next c cause crankback (SoftInitiated i r) =
       by-two (Called hard soft remote next (SoftInitiated i r) cause crankback) c i r
       (initiated-incumbent hard next cause crankback i r)
-      (λ p. simp (p, itself) (search (arith, p, itself)))
-      (λ p q. simp (p, q) (search (arith, p, q)))
+      (λ p. simp (p, itself) (search (arith, forwarded-came, restated-came, p, itself)))
+      (λ p q. simp (p, q) (search (arith, forwarded-came, restated-came, p, q)))
   called-lawful hard next c cause crankback (Awaiting i r) =
       by-two (Called hard soft remote next (Awaiting i r) cause crankback) c i r
       (awaiting-incumbent hard next cause crankback i r)
       (awaiting-rerouting hard next cause crankback i r)
-      (λ p q. simp (p, q) (search (arith, p, q)))
+      (λ p q. simp (p, q) (search (arith, forwarded-came, restated-came, p, q)))

@@ -1,4 +1,4 @@
--- The rows that take connections down agree with the outside witnesses, by computation. Assumes nothing.
+-- The rows of a called-side release agree with the outside witnesses, by computation. Assumes nothing.
 use mathlib.Core.Path.{_≡_, refl}
 use mathlib.Core.Bool.{true}
 use Rattle.source_releases.specs.Witness.{appendixAgrees, annexAgrees}

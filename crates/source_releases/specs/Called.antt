@@ -28,14 +28,14 @@ idleLost hard NoCause = pick hard (moves HardTriggered (timerStart ∷ [])) (end
 idleLost hard (WithCause k) = ends (releaseOf CallingRelease 0 (forwarded (WithCause k)) ∷ [])
 
 -- Soft Triggered, the incumbent: normal call clearing, whatever came (6.2.4.5 to the letter; decision 1)
-abbrev pub triggeredLost : Row
-triggeredLost = ends (releaseOf CallingRelease 0 Absent ∷ [])
+abbrev pub softTriggeredLost : Bool → ReceivedCause → Row
+softTriggeredLost hard cause = ends (releaseOf CallingRelease 0 Absent ∷ [])
 
 -- the hard reroute is given up: 6.2.4.4 case 5
 abbrev pub hardGivenUp : Row
 hardGivenUp = ends (timerStop ∷ releaseOf CallingRelease 0 (Numbered notRecovered) ∷ [])
 
--- the retry over an alternate path, 6.2.4.4 case 4; at 65,535 it counts as no path (01)
+-- the retry over an alternate path, 6.2.4.4 case 4; at 65,535 it counts as no path (01), and case 5 applies (decision 3)
 abbrev pub hardAlternate : Fresh → Row
 hardAlternate (Next n) = gives (HardProceeding n) n (setupOn n ∷ [])
 hardAlternate Spent = hardGivenUp
@@ -52,80 +52,83 @@ hardCrankback AlternateFound next = hardAlternate next
 hardCrankback NoAlternate next = hardGivenUp
 
 -- Hard Proceeding, the rerouting connection: a cause comes before crankback (6.2.4.4 case 3; decision 4)
-abbrev pub hardLost : ReceivedCause → Crankback → Fresh → Row
-hardLost NoCause crankback next = hardCrankback crankback next
-hardLost (WithCause k) crankback next = ends (timerStop ∷ releaseOf CallingRelease 0 (forwarded (WithCause k)) ∷ [])
+abbrev pub hardProceedingLost : ReceivedCause → Crankback → Fresh → Row
+hardProceedingLost NoCause crankback next = hardCrankback crankback next
+hardProceedingLost (WithCause k) crankback next = ends (timerStop ∷ releaseOf CallingRelease 0 (forwarded (WithCause k)) ∷ [])
 
--- the calling side and the rerouting connection r are released with one cause
+-- the calling side and the rerouting connection r are released with one cause (01; D17-4 to 6, where 6.2.4.6 case 3 is silent on the second)
 abbrev pub bothReleased : ℕ → SentCause → Row
 bothReleased r cause = ends (releaseOf CallingRelease 0 cause ∷ releaseOf ReroutingRelease r cause ∷ [])
 
--- Soft Proceeding, the incumbent (D17): hard off comes first (decision 6)
-abbrev pub proceedingHard : ReceivedCause → ℕ → Row
-proceedingHard NoCause r = moves (HardProceeding r) (timerStart ∷ [])
-proceedingHard (WithCause k) r = bothReleased r (restated (WithCause k))
+-- Soft Proceeding, the incumbent, with hard on (01; D17-5 to 7)
+abbrev pub softProceedingHardOn : ReceivedCause → ℕ → Row
+softProceedingHardOn NoCause r = moves (HardProceeding r) (timerStart ∷ [])
+softProceedingHardOn (WithCause k) r = bothReleased r (restated (WithCause k))
 
-abbrev pub proceedingLost : Bool → ReceivedCause → ℕ → Row
-proceedingLost hard cause r = pick hard (proceedingHard cause r) (bothReleased r Absent)
+-- Soft Proceeding, the incumbent: 01 prints "hard off" first, and no cause is read then (decision 6)
+abbrev pub softProceedingLost : Bool → ReceivedCause → ℕ → Row
+softProceedingLost hard cause r = pick hard (softProceedingHardOn cause r) (bothReleased r Absent)
 
 -- the soft reroute is given up, and the incumbent stays (6.2.4.6 case 6)
 abbrev pub backToIdle : ℕ → Row
 backToIdle i = moves (Idle i) []
 
--- Soft Proceeding, the rerouting connection: an alternate takes a new number; at 65,535 as if none was found
+-- Soft Proceeding, the rerouting connection: an alternate takes a new number; at 65,535 as if none was found (01; 6.2.4.6 case 5)
 abbrev pub softAlternate : ℕ → Fresh → Row
 softAlternate i (Next n) = gives (SoftProceeding i n) n (setupOn n ∷ [])
 softAlternate i Spent = backToIdle i
 
+-- crankback alone decides, and the cause is not read (6.2.4.6 cases 5 and 6; decision 8)
 abbrev pub softCrankback : ℕ → Crankback → Fresh → Row
 softCrankback i NoCrankback next = backToIdle i
 softCrankback i AlternateFound next = softAlternate i next
 softCrankback i NoAlternate next = backToIdle i
 
--- Soft Initiated, the incumbent (D18): as Soft Proceeding, but the last line
-abbrev pub initiatedHard : ReceivedCause → ℕ → Row
-initiatedHard NoCause r = moves HardTriggered (timerStart ∷ callRejected r ∷ [])
-initiatedHard (WithCause k) r = bothReleased r (restated (WithCause k))
+-- Soft Initiated, the incumbent, with hard on: as Soft Proceeding, but the last line (01; D18-5 to 7)
+abbrev pub softInitiatedHardOn : ReceivedCause → ℕ → Row
+softInitiatedHardOn NoCause r = moves HardTriggered (timerStart ∷ callRejected r ∷ [])
+softInitiatedHardOn (WithCause k) r = bothReleased r (restated (WithCause k))
 
-abbrev pub initiatedLost : Bool → ReceivedCause → ℕ → Row
-initiatedLost hard cause r = pick hard (initiatedHard cause r) (bothReleased r Absent)
+-- Soft Initiated, the incumbent: hard off first, as above
+abbrev pub softInitiatedLost : Bool → ReceivedCause → ℕ → Row
+softInitiatedLost hard cause r = pick hard (softInitiatedHardOn cause r) (bothReleased r Absent)
 
--- Awaiting, the incumbent (D19): none or #4 switches over
-abbrev pub awaitingLost : ReceivedCause → ℕ → Row
-awaitingLost NoCause r = moves (Idle r) (switchTo r ∷ [])
-awaitingLost (WithCause k) r =
+-- Awaiting, the incumbent: none or #4 switches over; the hard service is not read (01; 6.2.4.8 cases 3 and 4; decision 6)
+abbrev pub awaitingIncumbentLost : ReceivedCause → ℕ → Row
+awaitingIncumbentLost NoCause r = moves (Idle r) (switchTo r ∷ [])
+awaitingIncumbentLost (WithCause k) r =
     pick (eqb (k .number) 4) (moves (Idle r) (switchTo r ∷ [])) (bothReleased r (restated (WithCause k)))
 
--- Awaiting, the rerouting connection: the incumbent's own release has no Rerouting cause (6.2.4.8 case 5; decision 7)
-abbrev pub awaitingOther : ReceivedCause → ℕ → Row
-awaitingOther NoCause i = backToIdle i
-awaitingOther (WithCause k) i =
+-- Awaiting, the rerouting connection: the incumbent's own release has no Rerouting cause (6.2.4.8 cases 5 and 6; decision 7)
+abbrev pub awaitingReroutingLost : ReceivedCause → ℕ → Row
+awaitingReroutingLost NoCause i = backToIdle i
+awaitingReroutingLost (WithCause k) i =
     ends (releaseOf CallingRelease 0 (restated (WithCause k)) ∷ releaseOf IncumbentRelease i Absent ∷ [])
 
 -- c is the one held connection x, or is not held (107)
-abbrev pub ofOne : ℕ → ℕ → Row → Row
-ofOne c x row = pick (eqb c x) row (refuses NotHeld)
+abbrev pub ifHeld : ℕ → ℕ → Row → Row
+ifHeld c x row = pick (eqb c x) row (refuses NotHeld)
 
 -- c is the incumbent i, the rerouting connection r, or is not held (107); a number held twice names the incumbent (decision 26)
-abbrev pub ofTwo : ℕ → ℕ → ℕ → Row → Row → Row
-ofTwo c i r incumbentRow reroutingRow = pick (eqb c i) incumbentRow (pick (eqb c r) reroutingRow (refuses NotHeld))
+abbrev pub byConnection : ℕ → ℕ → ℕ → Row → Row → Row
+byConnection c i r incumbentRow reroutingRow = pick (eqb c i) incumbentRow (pick (eqb c r) reroutingRow (refuses NotHeld))
 
 -- the row, by the hard service, the connection, the cause, the crankback, the next number and the state
 abbrev pub calledRow : Bool → ℕ → ReceivedCause → Crankback → Fresh → State → Row
 -- decision 26
 calledRow hard c cause crankback next Null = refuses NoMeaning
 -- 6.2.4.2 cases 3 and 4
-calledRow hard c cause crankback next (Idle i) = ofOne c i (idleLost hard cause)
+calledRow hard c cause crankback next (Idle i) = ifHeld c i (idleLost hard cause)
 -- nothing is held (decision 10)
 calledRow hard c cause crankback next HardTriggered = refuses NotHeld
 -- 6.2.4.4 cases 3 to 6
-calledRow hard c cause crankback next (HardProceeding r) = ofOne c r (hardLost cause crankback next)
+calledRow hard c cause crankback next (HardProceeding r) = ifHeld c r (hardProceedingLost cause crankback next)
 -- 6.2.4.5
-calledRow hard c cause crankback next (SoftTriggered i) = ofOne c i triggeredLost
--- 01, rows "Soft Proceeding"; 6.2.4.6
+calledRow hard c cause crankback next (SoftTriggered i) = ifHeld c i (softTriggeredLost hard cause)
+-- 01, rows "Soft Proceeding"
 calledRow hard c cause crankback next (SoftProceeding i r) =
-    ofTwo c i r (proceedingLost hard cause r) (softCrankback i crankback next)
--- 01, rows "Soft Initiated"; 6.2.4.7
-calledRow hard c cause crankback next (SoftInitiated i r) = ofTwo c i r (initiatedLost hard cause r) (backToIdle i)
--- 01, rows "Awaiting"; 6.2.4.8
-calledRow hard c cause crankback next (Awaiting i r) = ofTwo c i r (awaitingLost cause r) (awaitingOther cause i)
+    byConnection c i r (softProceedingLost hard cause r) (softCrankback i crankback next)
+-- 01, rows "Soft Initiated"
+calledRow hard c cause crankback next (SoftInitiated i r) = byConnection c i r (softInitiatedLost hard cause r) (backToIdle i)
+-- 01, rows "Awaiting"
+calledRow hard c cause crankback next (Awaiting i r) = byConnection c i r (awaitingIncumbentLost cause r) (awaitingReroutingLost cause i)

@@ -1,4 +1,2 @@
-pub mod Calling
 pub mod Called
-pub mod Expiry
 pub mod Witness

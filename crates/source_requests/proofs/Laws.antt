@@ -8,19 +8,15 @@ use Rattle.signal.specs.declared.Soft.{Soft}
 use Rattle.signal.specs.declared.Soft.the-variants.{NoSoft, Asymmetric, Symmetric}
 use Rattle.signal.specs.declared.Fresh.{Fresh}
 use Rattle.signal.specs.declared.Fresh.the-variants.{Next, Spent}
-use Rattle.signal.specs.declared.Switchover.{Switchover}
-use Rattle.signal.specs.Numbers.{isClearing, isLate}
 use Rattle.source_states.specs.declared.State.{State}
 use Rattle.source_states.specs.declared.State.the-variants.{Null, Idle, HardTriggered, HardProceeding, SoftTriggered, SoftProceeding, SoftInitiated, Awaiting}
-use Rattle.source_states.specs.declared.Event.the-variants.{Trigger, PathFound, NoPath, Connect, Setup, Ready}
-use Rattle.signal.specs.declared.Answer.the-variants.{NoMeaning}
-use Rattle.source_states.specs.Rows.{refuses}
-use Rattle.source_states.specs.Checks.{hasSoft, hasSymmetric}
+use Rattle.source_states.specs.declared.Event.the-variants.{Trigger, PathFound, NoPath, Connect, Ready}
+use Rattle.source_states.specs.Checks.{hasSoft}
 use Rattle.source_states.specs.Lawful.{Lawful}
+use Rattle.source_states.proofs.Tests.{itself}
 use Rattle.source_requests.specs.Trigger.{triggerIn, triggerRow}
 use Rattle.source_requests.specs.Path.{pathRow, noPathRow}
 use Rattle.source_requests.specs.Connect.{connectRow}
-use Rattle.source_requests.specs.Setup.{setupRow}
 use Rattle.source_requests.specs.Ready.{readyRow}
 
 module _ (hard : Bool) (remote : ℕ) (next : Fresh) where
@@ -84,14 +80,14 @@ module _ (hard : Bool) (soft : Soft) (remote : ℕ) (next : Fresh) where
   ready-lawful (Awaiting i r) = search arith
 
   hard-connect : (c : ℕ) (agreed : Bool) (r : ℕ) (b : Bool) → eqb c r ≡ b → Lawful hard soft remote next (HardProceeding r) (Connect c agreed) (connectRow c agreed (HardProceeding r))
-  hard-connect c agreed r true p = simp p (search (arith, p))
-  hard-connect c agreed r false p = simp p (search (arith, p))
+  hard-connect c agreed r true p = simp p (search (arith, itself, p))
+  hard-connect c agreed r false p = simp p (search (arith, itself, p))
 
   soft-connect : (c : ℕ) (agreed : Bool) (i r : ℕ) (b d : Bool) → eqb c i ≡ b → eqb c r ≡ d → Lawful hard soft remote next (SoftProceeding i r) (Connect c agreed) (connectRow c agreed (SoftProceeding i r))
-  soft-connect c agreed i r true d p q = simp (p, q) (search (arith, p, q))
-  soft-connect c true i r false true p q = simp (p, q) (search (arith, p, q))
-  soft-connect c false i r false true p q = simp (p, q) (search (arith, p, q))
-  soft-connect c agreed i r false false p q = simp (p, q) (search (arith, p, q))
+  soft-connect c agreed i r true d p q = simp (p, q) (search (arith, itself, p, q))
+  soft-connect c true i r false true p q = simp (p, q) (search (arith, itself, p, q))
+  soft-connect c false i r false true p q = simp (p, q) (search (arith, itself, p, q))
+  soft-connect c agreed i r false false p q = simp (p, q) (search (arith, itself, p, q))
 
   pub connect-lawful : (c : ℕ) (agreed : Bool) (s : State) → Lawful hard soft remote next s (Connect c agreed) (connectRow c agreed s)
   connect-lawful c agreed Null = search arith
@@ -102,61 +98,3 @@ module _ (hard : Bool) (soft : Soft) (remote : ℕ) (next : Fresh) where
   connect-lawful c agreed (SoftProceeding i r) = soft-connect c agreed i r (eqb c i) (eqb c r) refl refl
   connect-lawful c agreed (SoftInitiated i r) = search arith
   connect-lawful c agreed (Awaiting i r) = search arith
-
--- a setup, where the call has symmetric soft: by row 1, row 2, and the state
-module _ (hard : Bool) (remote : ℕ) (code : Switchover) (number : ℕ) where
-  abbrev Met : Fresh → State → Type 0
-  Met next s = Lawful hard Symmetric remote next s (Setup code number) (setupRow Symmetric code number remote next s)
-
-  in-state : (next : Fresh) (s : State) → isClearing code ≡ true → isLate number remote ≡ false → Met next s
-  in-state next Null p q = search arith
-  in-state (Next n) (Idle i) p q = simp (p, q) (search (arith, p, q))
-  in-state Spent (Idle i) p q = simp (p, q) (search (arith, p, q))
-  in-state next HardTriggered p q = simp (p, q) (search (arith, p, q))
-  in-state next (HardProceeding r) p q = simp (p, q) (search (arith, p, q))
-  in-state next (SoftTriggered i) p q = simp (p, q) (search (arith, p, q))
-  in-state next (SoftProceeding i r) p q = simp (p, q) (search (arith, p, q))
-  in-state (Next n) (SoftInitiated i r) p q = simp (p, q) (search (arith, p, q))
-  in-state Spent (SoftInitiated i r) p q = simp (p, q) (search (arith, p, q))
-  in-state (Next n) (Awaiting i r) p q = simp (p, q) (search (arith, p, q))
-  in-state Spent (Awaiting i r) p q = simp (p, q) (search (arith, p, q))
-
-  old : (next : Fresh) (s : State) → isClearing code ≡ true → isLate number remote ≡ true → Met next s
-  old next Null p q = search arith
-  old next (Idle i) p q = simp (p, q) (search (arith, p, q))
-  old next HardTriggered p q = simp (p, q) (search (arith, p, q))
-  old next (HardProceeding r) p q = simp (p, q) (search (arith, p, q))
-  old next (SoftTriggered i) p q = simp (p, q) (search (arith, p, q))
-  old next (SoftProceeding i r) p q = simp (p, q) (search (arith, p, q))
-  old next (SoftInitiated i r) p q = simp (p, q) (search (arith, p, q))
-  old next (Awaiting i r) p q = simp (p, q) (search (arith, p, q))
-
-  not-clearing : (next : Fresh) (s : State) → isClearing code ≡ false → Met next s
-  not-clearing next Null p = search arith
-  not-clearing next (Idle i) p = simp p (search (arith, p))
-  not-clearing next HardTriggered p = simp p (search (arith, p))
-  not-clearing next (HardProceeding r) p = simp p (search (arith, p))
-  not-clearing next (SoftTriggered i) p = simp p (search (arith, p))
-  not-clearing next (SoftProceeding i r) p = simp p (search (arith, p))
-  not-clearing next (SoftInitiated i r) p = simp p (search (arith, p))
-  not-clearing next (Awaiting i r) p = simp p (search (arith, p))
-
-  symmetric : (next : Fresh) (s : State) (b d : Bool) → isClearing code ≡ b → isLate number remote ≡ d → Met next s
-  symmetric next s true true p q = old next s p q
-  symmetric next s true false p q = in-state next s p q
-  symmetric next s false d p q = not-clearing next s p
-
-  without : (soft : Soft) (next : Fresh) → hasSymmetric soft ≡ false → (s : State) → Lawful hard soft remote next s (Setup code number) (refuses NoMeaning)
-  without soft next p Null = search arith
-  without soft next p (Idle i) = search (arith, p)
-  without soft next p HardTriggered = search (arith, p)
-  without soft next p (HardProceeding r) = search (arith, p)
-  without soft next p (SoftTriggered i) = search (arith, p)
-  without soft next p (SoftProceeding i r) = search (arith, p)
-  without soft next p (SoftInitiated i r) = search (arith, p)
-  without soft next p (Awaiting i r) = search (arith, p)
-
-  pub setup-lawful : (soft : Soft) (next : Fresh) (s : State) → Lawful hard soft remote next s (Setup code number) (setupRow soft code number remote next s)
-  setup-lawful NoSoft next s = without NoSoft next refl s
-  setup-lawful Asymmetric next s = without Asymmetric next refl s
-  setup-lawful Symmetric next s = symmetric next s (isClearing code) (isLate number remote) refl refl

@@ -1,4 +1,4 @@
--- The rows that bring connections up agree with the outside witnesses, by computation. Assumes nothing.
+-- The rows that bring a connection up from this end agree with the outside witnesses, by computation. Assumes nothing.
 use mathlib.Core.Path.{_≡_, refl}
 use mathlib.Core.Bool.{true}
 use Rattle.source_requests.specs.Witness.{appendixAgrees, annexAgrees}

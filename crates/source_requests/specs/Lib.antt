@@ -1,6 +1,5 @@
 pub mod Trigger
 pub mod Path
 pub mod Connect
-pub mod Setup
 pub mod Ready
 pub mod Witness

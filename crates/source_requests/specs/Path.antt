@@ -10,7 +10,7 @@ use Rattle.source_states.specs.declared.State.the-variants.{Null, Idle, HardTri
 use Rattle.source_states.specs.declared.Row.{Row}
 use Rattle.source_states.specs.Rows.{refuses, stays, moves, gives}
 
--- a setup is sent on a new connection (6.2.5.1); at 65,535 there is none (01, 108)
+-- a setup is sent on a new connection (6.2.5.1; the local incarnation number that it carries is left to encoding); at 65,535 there is none (01, 108)
 abbrev pub hardPath : Fresh → Row
 hardPath (Next n) = gives (HardProceeding n) n (setupOn n ∷ [])
 hardPath Spent = refuses NumbersSpent
@@ -30,7 +30,7 @@ pathRow next (SoftProceeding i r) = refuses NoMeaning
 pathRow next (SoftInitiated i r) = refuses NoMeaning
 pathRow next (Awaiting i r) = refuses NoMeaning
 
--- Soft Triggered goes back to Idle (6.2.5.3); Hard Triggered stays, and the timer decides (01, against 6.2.5.1)
+-- Soft Triggered goes back to Idle (01; 6.2.5.3); Hard Triggered stays, and the timer decides (01, against 6.2.5.1)
 abbrev pub noPathRow : State → Row
 noPathRow Null = refuses NoMeaning
 noPathRow (Idle i) = refuses NoMeaning

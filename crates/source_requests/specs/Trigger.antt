@@ -8,7 +8,7 @@ use Rattle.source_states.specs.declared.State.the-variants.{Null, Idle, HardTri
 use Rattle.source_states.specs.declared.Row.{Row}
 use Rattle.source_states.specs.Rows.{refuses, stays, moves}
 
--- with a soft service: Idle moves (6.2.5.3 case 1), any other state disregards it (case 2)
+-- with a soft service: Idle moves (01; 6.2.5.3 case 1), any other state disregards it (case 2)
 abbrev pub triggerIn : State → Row
 -- decision 26
 triggerIn Null = refuses NoMeaning

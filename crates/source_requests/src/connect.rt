@@ -6,6 +6,7 @@ ghost use Rattle.signal.specs.Choice.{pick};
 ghost use Rattle.source_states.specs.Rows.{refuses};
 ghost use Rattle.source_requests.specs.Connect.{connectRow, hardConnected, softConnected};
 use signal::Answer;
+use signal::CauseCode;
 use signal::Kind;
 use signal::ReroutingCause;
 use signal::SentCause;
@@ -33,11 +34,25 @@ fn soft_connected(agreed: bool, incumbent: u16, rerouting: u16) -> Row
     if agreed {
         let switch = Signal::naming(Kind::Switch, rerouting);
         let cause = SentCause::Numbered(ReroutingCause::COMPLETE);
-        let other = Signal::release(Kind::IncumbentRelease, incumbent, cause);
+        let other = Signal::release(
+            Kind::IncumbentRelease,
+            incumbent,
+            cause,
+            CauseCode::Section66,
+        );
         return Row::decided(Change::Moves(State::Idle(rerouting)), switch, other);
     }
     let change = Change::Moves(State::Idle(incumbent));
-    Row::decided(change, Signal::call_rejected(rerouting), Signal::NONE)
+    Row::decided(
+        change,
+        Signal::release(
+            Kind::ReroutingRelease,
+            rerouting,
+            SentCause::Absent,
+            CauseCode::CallRejected,
+        ),
+        Signal::NONE,
+    )
 }
 
 fn of_two(connection: u16, agreed: bool, incumbent: u16, rerouting: u16) -> Row

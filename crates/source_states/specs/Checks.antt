@@ -103,17 +103,21 @@ isBusy s = isTriggered s || isProceeding s
 abbrev pub acceptable : ℕ → State → Switchover → ℕ → Bool
 acceptable remote s code number = isClearing code && (not (isLate number remote) && not (isBusy s))
 
--- 108: "path found", or a setup that would otherwise be accepted, when there is no next number
+-- "path found", or a setup that would otherwise be accepted: what asks for a new number, and is refused without one
+abbrev pub asksNumber : ℕ → State → Event → Bool
+asksNumber remote s Trigger = false
+asksNumber remote s PathFound = true
+asksNumber remote s NoPath = false
+asksNumber remote s (Connect c agreed) = false
+asksNumber remote s (Setup code number) = acceptable remote s code number
+asksNumber remote s (FromCalling cause) = false
+asksNumber remote s (FromCalled c cause crankback) = false
+asksNumber remote s Ready = false
+asksNumber remote s Expiry = false
+
+-- 108: such an event, when there is no next number
 abbrev pub numbersSpent : ℕ → Fresh → State → Event → Bool
-numbersSpent remote next s Trigger = false
-numbersSpent remote next s PathFound = isSpent next
-numbersSpent remote next s NoPath = false
-numbersSpent remote next s (Connect c agreed) = false
-numbersSpent remote next s (Setup code number) = acceptable remote s code number && isSpent next
-numbersSpent remote next s (FromCalling cause) = false
-numbersSpent remote next s (FromCalled c cause crankback) = false
-numbersSpent remote next s Ready = false
-numbersSpent remote next s Expiry = false
+numbersSpent remote next s e = asksNumber remote s e && isSpent next
 
 -- the first check that applies gives the answer; 0 where none does
 abbrev pub firstOf : Bool → Bool → Bool → ℕ
@@ -122,12 +126,13 @@ firstOf meaningless notHeld spent = pick meaningless 106 (pick notHeld 107 (pick
 abbrev pub answerWanted : Soft → ℕ → Fresh → State → Event → ℕ
 answerWanted soft remote next s e = firstOf (meaningless soft s e) (namesNotHeld s e) (numbersSpent remote next s e)
 
--- the rejection of a setup by the first of rows 1 to 3 that it breaks, where it has a meaning; no other event is rejected
+-- the rejection of a setup by the first of rows 1 to 3 that applies
 abbrev pub setupRejection : ℕ → State → Switchover → ℕ → List Signal
 setupRejection remote s code number =
     pick (not (isClearing code)) (rejection unsupported ∷ [])
     (pick (isLate number remote) (rejection oldNumber ∷ []) (pick (isBusy s) (rejection inProgress ∷ []) []))
 
+-- the same where the setup has a meaning; no other event is rejected
 abbrev pub rejectionWanted : Soft → ℕ → State → Event → List Signal
 rejectionWanted soft remote s Trigger = []
 rejectionWanted soft remote s PathFound = []
@@ -207,3 +212,36 @@ startsWanted before after = pick (not before && after) (timerStart ∷ []) []
 -- timer stop exactly on leaving them other than by expiry, once
 abbrev pub stopsWanted : Bool → Bool → Bool → List Signal
 stopsWanted expired before after = pick (before && (not after && not expired)) (timerStop ∷ []) []
+
+-- every one of the connections is the state's incumbent
+abbrev pub AllIncumbent : State → List ℕ → Type 0
+AllIncumbent s [] = Unit
+AllIncumbent s (x ∷ more) = (isIncumbent s x ≡ true) × AllIncumbent s more
+
+abbrev pub isFromCalling : Event → Bool
+isFromCalling Trigger = false
+isFromCalling PathFound = false
+isFromCalling NoPath = false
+isFromCalling (Connect c agreed) = false
+isFromCalling (Setup code number) = false
+isFromCalling (FromCalling cause) = true
+isFromCalling (FromCalled c cause crankback) = false
+isFromCalling Ready = false
+isFromCalling Expiry = false
+
+-- the calling side is released, once and on connection 0, exactly when the call ends otherwise than by its own release; told whether there is a call
+-- before and after
+abbrev pub callingWanted : Bool → Bool → Event → List ℕ
+callingWanted before after e = pick (before && (not after && not (isFromCalling e))) (0 ∷ []) []
+
+-- the Rerouting cause that an event brings
+abbrev pub receivedIn : Event → ReceivedCause
+receivedIn Trigger = NoCause
+receivedIn PathFound = NoCause
+receivedIn NoPath = NoCause
+receivedIn (Connect c agreed) = NoCause
+receivedIn (Setup code number) = NoCause
+receivedIn (FromCalling cause) = cause
+receivedIn (FromCalled c cause crankback) = cause
+receivedIn Ready = NoCause
+receivedIn Expiry = NoCause

@@ -1,7 +1,7 @@
 -- What every row must keep, whatever it is: the laws that the claims on one event rest on. The rows' crates prove them of each row. Assumes nothing.
-use Prim.Native.Nat.{ℕ, _+_}
+use Prim.Native.Nat.{ℕ, _+_, _≤_}
 use mathlib.Core.Path.{_≡_}
-use mathlib.Core.Bool.{Bool, true, false}
+use mathlib.Core.Bool.{Bool, true, false, not}
 use mathlib.Core.List.{List, [], _∷_, _++_}
 use lib.Dec.{ltb}
 use lib.ListN.{length}
@@ -10,19 +10,19 @@ use Rattle.signal.specs.declared.Answer.the-variants.{Done}
 use Rattle.signal.specs.declared.Soft.{Soft}
 use Rattle.signal.specs.declared.Fresh.{Fresh}
 use Rattle.signal.specs.declared.Fresh.the-variants.{Next}
-use Rattle.signal.specs.declared.Kind.the-variants.{TimerStart, TimerStop, Switch, SetupRequest, Rejection}
+use Rattle.signal.specs.declared.Kind.the-variants.{NoSignal, TimerStart, TimerStop, Switch, CallingRelease, IncumbentRelease, ReroutingRelease, SetupRequest, ConnectRequest, Rejection}
 use Rattle.signal.specs.declared.Signal.{Signal}
-use Rattle.signal.specs.Signals.{places}
+use Rattle.signal.specs.Signals.{none, places}
 use Rattle.signal.specs.Numbers.{answerNumber}
-use Rattle.signal.specs.Counting.{count, ofKind, named, endedSent, withCode21, inOrder}
+use Rattle.signal.specs.Counting.{Honest, count, ofKind, named, endedSent, withCode21, inOrder}
 use Rattle.source_states.specs.declared.State.{State}
 use Rattle.source_states.specs.declared.State.the-variants.{Null}
 use Rattle.source_states.specs.declared.Event.{Event}
 use Rattle.source_states.specs.declared.Change.{Change}
 use Rattle.source_states.specs.declared.Change.the-variants.{Refuses, Stays, Moves, Gives, Accepts, Ends}
 use Rattle.source_states.specs.declared.Row.{Row}
-use Rattle.source_states.specs.States.{isNull, isHard, heldIn, incumbentOf}
-use Rattle.source_states.specs.Checks.{AllAre, startsWanted, stopsWanted, answerWanted, rejectionWanted, storedWanted, code21Wanted, reported, isExpiry}
+use Rattle.source_states.specs.States.{isNull, isHard, heldIn, incumbentOf, reroutingOf}
+use Rattle.source_states.specs.Checks.{AllAre, AllIncumbent, callingWanted, receivedIn, startsWanted, stopsWanted, answerWanted, rejectionWanted, storedWanted, code21Wanted, reported, isExpiry}
 
 -- 0 for everything but a refusal
 abbrev pub answerTo : Change → Answer
@@ -101,6 +101,20 @@ abbrev pub Rejects : List Signal → Row → Type 0
 Rejects [] row = Unit
 Rejects (r ∷ more) row = (row .change ≡ Stays) × (row .signals ≡ places (r ∷ []))
 
+-- the number that a change gives, 0 where it gives none
+abbrev pub newNumber : Change → ℕ
+newNumber (Refuses a) = 0
+newNumber Stays = 0
+newNumber (Moves s) = 0
+newNumber (Gives s n) = n
+newNumber (Accepts s n number) = n
+newNumber Ends = 0
+
+-- every one of the signals is none, as 01 says what a "none" place holds (decision 17)
+abbrev pub Nones : List Signal → Type 0
+Nones [] = Unit
+Nones (s ∷ more) = (s ≡ none) × Nones more
+
 -- what is held before, with the number given, is what is held after and what has ended; each counted
 abbrev pub Balanced : State → List ℕ → Row → Type 0
 Balanced s got row =
@@ -121,6 +135,14 @@ pub record Lawful (hard : Bool) (soft : Soft) (remote : ℕ) (next : Fresh) (s :
   pub ordered : inOrder (row .signals) ≡ true
   pub starts : ofKind TimerStart (row .signals) ≡ startsWanted (isHard s) (isHard (stateAfter s (row .change)))
   pub stops : ofKind TimerStop (row .signals) ≡ stopsWanted (isExpiry e) (isHard s) (isHard (stateAfter s (row .change)))
-  pub switched : AllAre (incumbentOf (stateAfter s (row .change))) (named (ofKind Switch (row .signals)))
+  pub switched : AllIncumbent (stateAfter s (row .change)) (named (ofKind Switch (row .signals)))
+  pub told : named (ofKind CallingRelease (row .signals)) ≡ callingWanted (not (isNull s)) (not (isNull (stateAfter s (row .change)))) e
+  pub incumbents : AllAre (incumbentOf s) (named (ofKind IncumbentRelease (row .signals)))
+  pub reroutings : AllAre (reroutingOf s) (named (ofKind ReroutingRelease (row .signals)))
+  pub connects : AllAre (reroutingOf (stateAfter s (row .change))) (named (ofKind ConnectRequest (row .signals)))
+  pub setups : AllAre (newNumber (row .change)) (named (ofKind SetupRequest (row .signals)))
+  pub honest : Honest (receivedIn e) (row .signals)
+  pub blank : Nones (ofKind NoSignal (row .signals))
+  pub two : 2 ≤ length (ofKind NoSignal (row .signals))
   pub given : length (ofKind SetupRequest (row .signals)) + length (storedBy (row .change)) ≡ length (givenBy (row .change))
   pub balanced : Balanced s (reported e) row

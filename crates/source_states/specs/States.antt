@@ -6,7 +6,8 @@ use mathlib.Core.List.{List, [], _∷_}
 use Rattle.source_states.specs.declared.State.{State}
 use Rattle.source_states.specs.declared.State.the-variants.{Null, Idle, HardTriggered, HardProceeding, SoftTriggered, SoftProceeding, SoftInitiated, Awaiting}
 
--- the number of a state (01, "The table and its records": 0 to 7)
+-- Null; Rerouting Idle; Hard Reroute Triggered; Hard Reroute Proceeding; Soft Reroute Triggered; Soft Reroute Proceeding; Soft Reroute Initiated;
+-- Awaiting Switchover: the number of a state (01, "The table and its records": 0 to 7)
 abbrev pub stateNumber : State → ℕ
 stateNumber Null = 0
 stateNumber (Idle i) = 1

@@ -9,6 +9,7 @@ use Rattle.signal.specs.declared.CauseCode.{CauseCode}
 use Rattle.signal.specs.declared.Crankback.{Crankback}
 use Rattle.signal.specs.declared.Crankback.the-variants.{NoCrankback, AlternateFound, NoAlternate}
 use Rattle.signal.specs.declared.Kind.{Kind}
+use Rattle.signal.specs.declared.Kind.the-variants.{TimerStart, TimerStop, Switch, CallingRelease, IncumbentRelease, ReroutingRelease, SetupRequest, ConnectRequest, Rejection}
 use Rattle.signal.specs.declared.ReceivedCause.{ReceivedCause}
 use Rattle.signal.specs.declared.ReceivedCause.the-variants.{NoCause, WithCause}
 use Rattle.signal.specs.declared.SentCause.{SentCause}
@@ -24,6 +25,7 @@ use Rattle.source_states.specs.declared.Event.{Event}
 use Rattle.source_states.specs.declared.Event.the-variants.{Trigger, PathFound, NoPath, Connect, Setup, FromCalling, FromCalled, Ready, Expiry}
 use Rattle.source_states.specs.declared.Row.{Row}
 use Rattle.source_states.specs.States.{stateNumber}
+use Rattle.source_states.specs.Checks.{receivedIn}
 use Rattle.source_states.specs.Lawful.{answerTo, stateAfter, storedBy}
 
 -- a test that holds of every element
@@ -49,12 +51,13 @@ reaches s row n = isDone row && eqb (stateNumber (stateAfter s (row .change))) n
 -- Appendix C-1. A cell prints a next state, or FSM-ERR, which is a refusal here
 pub data Cell : Type 0 where
   to : ℕ → Cell
-  departs : ℕ → Cell
+  -- printed, and ours, which 01 or a decision puts in its place
+  departs : ℕ → ℕ → Cell
   fsmErr : Cell
 
 abbrev pub cellHolds : Cell → State → Row → Bool
 cellHolds (to n) s row = reaches s row n
-cellHolds (departs n) s row = not (reaches s row n)
+cellHolds (departs n m) s row = reaches s row m && not (eqb n m)
 cellHolds fsmErr s row = not (isDone row)
 
 -- a line: the events that stand for its input event at a state, and its cells in the table's order of columns
@@ -142,17 +145,6 @@ allFit got [] (s ∷ signals) = false
 allFit got (x ∷ sent) [] = false
 allFit got (x ∷ sent) (s ∷ signals) = signalFits got x s && allFit got sent signals
 
-abbrev pub receivedIn : Event → ReceivedCause
-receivedIn Trigger = NoCause
-receivedIn PathFound = NoCause
-receivedIn NoPath = NoCause
-receivedIn (Connect c agreed) = NoCause
-receivedIn (Setup code number) = NoCause
-receivedIn (FromCalling cause) = cause
-receivedIn (FromCalled c cause crankback) = cause
-receivedIn Ready = NoCause
-receivedIn Expiry = NoCause
-
 -- an item: its place in Annex D, the situations of which it speaks, and what it asks for
 pub record Item : Type 0 where
   pub table : ℕ
@@ -193,6 +185,7 @@ noCause = NoCause ∷ []
 abbrev pub causes : List ℕ → List ReceivedCause
 causes ns = each (λ n. WithCause (cause n)) ns
 
+-- samples of every class of cause
 abbrev pub anyCause : List ReceivedCause
 anyCause = causes (0 ∷ 1 ∷ 2 ∷ 4 ∷ 5 ∷ 255 ∷ [])
 
@@ -226,3 +219,55 @@ on = true ∷ []
 
 abbrev pub off : List Bool
 off = false ∷ []
+
+-- the signals, in the words of the items: incumbent 3, rerouting connection 5, next number 11
+abbrev pub start : Sent
+start = record { kind = TimerStart; connection = 0; said = without }
+
+abbrev pub stop : Sent
+stop = record { kind = TimerStop; connection = 0; said = without }
+
+abbrev pub switch : Sent
+switch = record { kind = Switch; connection = 5; said = without }
+
+abbrev pub setup : Sent
+setup = record { kind = SetupRequest; connection = 11; said = without }
+
+abbrev pub connect : Sent
+connect = record { kind = ConnectRequest; connection = 5; said = without }
+
+abbrev pub rejects : ℕ → Sent
+rejects n = record { kind = Rejection; connection = 0; said = setTo n }
+
+abbrev pub callingSide : Said → Sent
+callingSide c = record { kind = CallingRelease; connection = 0; said = c }
+
+abbrev pub incumbent : Said → Sent
+incumbent c = record { kind = IncumbentRelease; connection = 3; said = c }
+
+abbrev pub rerouting : Said → Sent
+rerouting c = record { kind = ReroutingRelease; connection = 5; said = c }
+
+-- the calling side and the rerouting connection; the incumbent and the rerouting connection, both with one cause
+abbrev pub callingAndRerouting : Said → List Sent
+callingAndRerouting c = callingSide c ∷ rerouting c ∷ []
+
+abbrev pub incumbentAndRerouting : Said → List Sent
+incumbentAndRerouting c = incumbent c ∷ rerouting c ∷ []
+
+abbrev pub line : (State → List Event) → List Cell → Line
+line events cells = record { events = events; cells = cells }
+
+-- an item that stores no number: what is sent, the next state, its table and number, the state, the settings of the hard service, the events
+abbrev pub sends : List Sent → ℕ → ℕ → ℕ → State → List Bool → List Event → Item
+sends sent next table item s hards events =
+    record {
+      table = table;
+      item = item;
+      state = s;
+      hards = hards;
+      events = events;
+      sent = sent;
+      stores = [];
+      next = next;
+    }

@@ -6,7 +6,7 @@ returns : tie.Need-returns
 returns c = simp (c .decided .ensures, c .before .release .ensures, c .before .before .naming .ensures, c .before .before .before .if1 .taken)
 
 returns-2 : tie.Need-returns-2
-returns-2 c = simp (c .decided2 .ensures, c .before .call-rejected .ensures, c .before .before .if1 .left)
+returns-2 c = simp (c .decided2 .ensures, c .before .release2 .ensures, c .before .before .if1 .left)
 
 pub soft-connected-spec : {M : Type 1} → statement M
 soft-connected-spec =

@@ -1,0 +1,17 @@
+use borrow.Author.Needs.{needs}
+use Rattle.source_releases.proofs.hard_again.Statement.{statement}
+use Rattle.source_releases.proofs.hard_again.Tie as tie
+
+returns : tie.Need-returns
+returns c = simp (c .decided .ensures, c .before .enum-told .given .1)
+
+pub hard-again-spec : {M : Type 1} → statement M
+hard-again-spec =
+    tie.close
+    (tie.spec
+    (λ c. search needs)
+    (λ c κs. search needs)
+    (λ c. search needs)
+    (λ c κs. search needs)
+    returns
+    (λ c. search needs))

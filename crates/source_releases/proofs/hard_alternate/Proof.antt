@@ -1,0 +1,18 @@
+use borrow.Author.Needs.{needs}
+use Rattle.source_releases.proofs.hard_alternate.Statement.{statement}
+use Rattle.source_releases.proofs.hard_alternate.Tie as tie
+
+returns : tie.Need-returns
+returns c = simp (c .decided .ensures, c .before .naming .ensures, c .before .before .before .next .given .1)
+
+pub hard-alternate-spec : {M : Type 1} → statement M
+hard-alternate-spec =
+    tie.close
+    (tie.spec
+    (λ c. search needs)
+    (λ c κs. search needs)
+    (λ c κs. search needs)
+    (λ c. search needs)
+    (λ c κs. search needs)
+    returns
+    (λ c. search needs))
