@@ -1,4 +1,5 @@
 -- A release from the calling side (01, "Release from the calling side"; 6.2.4.2 to 6.2.4.8). Assumes nothing.
+use Prim.Native.Nat.{ℕ}
 use mathlib.Core.Bool.{Bool, true}
 use mathlib.Core.List.{[], _∷_}
 use Rattle.signal.specs.declared.Answer.the-variants.{NoMeaning}
@@ -20,6 +21,11 @@ abbrev pub softTriggeredCause : Bool → ReceivedCause → SentCause
 softTriggeredCause hard NoCause = pick hard (Numbered outside) Absent
 softTriggeredCause hard (WithCause k) = Absent
 
+-- both held connections are released with the cause passed on (01, "Release from the calling side"; 6.2.4.6 cases 1 and 2)
+abbrev pub bothEnded : Bool → ReceivedCause → ℕ → ℕ → Row
+bothEnded hard cause i r =
+    ends (releaseOf IncumbentRelease i (passed hard cause) ∷ releaseOf ReroutingRelease r (passed hard cause) ∷ [])
+
 -- the row, by the hard service, the cause and the state
 abbrev pub callingRow : Bool → ReceivedCause → State → Row
 -- decision 26
@@ -33,11 +39,8 @@ callingRow hard cause (HardProceeding r) = ends (timerStop ∷ releaseOf Rerouti
 -- 6.2.4.5
 callingRow hard cause (SoftTriggered i) = ends (releaseOf IncumbentRelease i (softTriggeredCause hard cause) ∷ [])
 -- 6.2.4.6 cases 1 and 2
-callingRow hard cause (SoftProceeding i r) =
-    ends (releaseOf IncumbentRelease i (passed hard cause) ∷ releaseOf ReroutingRelease r (passed hard cause) ∷ [])
+callingRow hard cause (SoftProceeding i r) = bothEnded hard cause i r
 -- 01, "Release from the calling side"; D18-1 to 3
-callingRow hard cause (SoftInitiated i r) =
-    ends (releaseOf IncumbentRelease i (passed hard cause) ∷ releaseOf ReroutingRelease r (passed hard cause) ∷ [])
+callingRow hard cause (SoftInitiated i r) = bothEnded hard cause i r
 -- 01, "Release from the calling side"; D19-1 to 3
-callingRow hard cause (Awaiting i r) =
-    ends (releaseOf IncumbentRelease i (passed hard cause) ∷ releaseOf ReroutingRelease r (passed hard cause) ∷ [])
+callingRow hard cause (Awaiting i r) = bothEnded hard cause i r

@@ -1,11 +1,6 @@
 // A release from the calling side: every call ends.
 ghost use mathlib.Core.Path.{_≡_};
-ghost use mathlib.Core.List.{_∷_, []};
-ghost use Rattle.source_states.specs.Rows.{ends};
-ghost use Rattle.signal.specs.Causes.{passed};
-ghost use Rattle.signal.specs.Signals.{releaseOf};
-ghost use Rattle.signal.specs.declared.Kind.the-variants.{IncumbentRelease, ReroutingRelease};
-ghost use Rattle.source_endings.specs.Calling.{callingRow, softTriggeredCause};
+ghost use Rattle.source_endings.specs.Calling.{callingRow, bothEnded, softTriggeredCause};
 use signal::Answer;
 use signal::CauseCode;
 use signal::Kind;
@@ -33,7 +28,7 @@ fn soft_triggered_cause(hard: bool, cause: ReceivedCause) -> SentCause
 }
 
 fn both_ended(hard: bool, cause: ReceivedCause, incumbent: u16, rerouting: u16) -> Row
-    ensures { λ r. ⌜ r ≡ ends (releaseOf IncumbentRelease incumbent (passed hard cause) ∷ releaseOf ReroutingRelease rerouting (passed hard cause) ∷ []) ⌝ }
+    ensures { λ r. ⌜ r ≡ bothEnded hard cause incumbent rerouting ⌝ }
 {
     let sent = cause.passed(hard);
     let first = Signal::release(

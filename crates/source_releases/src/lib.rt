@@ -181,16 +181,13 @@ fn soft_initiated_lost(hard: bool, cause: ReceivedCause, rerouting: u16) -> Row
         match cause {
             ReceivedCause::NoCause => {
                 let change = Change::Moves(State::HardTriggered);
-                Row::decided(
-                    change,
-                    Signal::TIMER_START,
-                    Signal::release(
-                        Kind::ReroutingRelease,
-                        rerouting,
-                        SentCause::Absent,
-                        CauseCode::CallRejected,
-                    ),
-                )
+                let turned_away = Signal::release(
+                    Kind::ReroutingRelease,
+                    rerouting,
+                    SentCause::Absent,
+                    CauseCode::CallRejected,
+                );
+                Row::decided(change, Signal::TIMER_START, turned_away)
             }
             ReceivedCause::WithCause(_) => both_released(rerouting, cause.restated()),
         }

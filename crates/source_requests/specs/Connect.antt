@@ -23,14 +23,21 @@ abbrev pub softConnected : Bool → ℕ → ℕ → Row
 softConnected agreed i r =
     pick agreed (moves (Idle r) (switchTo r ∷ releaseOf IncumbentRelease i (Numbered complete) ∷ [])) (moves (Idle i) (callRejected r ∷ []))
 
--- outside the two Proceeding states it has no meaning (106); it names the rerouting connection, and not the incumbent, or is refused (107; decision 26)
+-- in Hard Proceeding it names the rerouting connection, or is refused (107)
+abbrev pub hardConnect : ℕ → ℕ → Row
+hardConnect c r = pick (eqb c r) (hardConnected r) (refuses NotHeld)
+
+-- in Soft Proceeding too; a number that names the incumbent is refused first (107; decision 26)
+abbrev pub softConnect : ℕ → Bool → ℕ → ℕ → Row
+softConnect c agreed i r = pick (eqb c i) (refuses NotHeld) (pick (eqb c r) (softConnected agreed i r) (refuses NotHeld))
+
+-- outside the two Proceeding states it has no meaning (106)
 abbrev pub connectRow : ℕ → Bool → State → Row
 connectRow c agreed Null = refuses NoMeaning
 connectRow c agreed (Idle i) = refuses NoMeaning
 connectRow c agreed HardTriggered = refuses NoMeaning
-connectRow c agreed (HardProceeding r) = pick (eqb c r) (hardConnected r) (refuses NotHeld)
+connectRow c agreed (HardProceeding r) = hardConnect c r
 connectRow c agreed (SoftTriggered i) = refuses NoMeaning
-connectRow c agreed (SoftProceeding i r) =
-    pick (eqb c i) (refuses NotHeld) (pick (eqb c r) (softConnected agreed i r) (refuses NotHeld))
+connectRow c agreed (SoftProceeding i r) = softConnect c agreed i r
 connectRow c agreed (SoftInitiated i r) = refuses NoMeaning
 connectRow c agreed (Awaiting i r) = refuses NoMeaning

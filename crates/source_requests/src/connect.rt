@@ -1,10 +1,6 @@
 // A connect for a connection, 6.2.6.
 ghost use mathlib.Core.Path.{_≡_};
-ghost use lib.Dec.{eqb};
-ghost use Rattle.signal.specs.declared.Answer.the-variants.{NotHeld};
-ghost use Rattle.signal.specs.Choice.{pick};
-ghost use Rattle.source_states.specs.Rows.{refuses};
-ghost use Rattle.source_requests.specs.Connect.{connectRow, hardConnected, softConnected};
+ghost use Rattle.source_requests.specs.Connect.{connectRow, hardConnect, softConnect, softConnected};
 use signal::Answer;
 use signal::CauseCode;
 use signal::Kind;
@@ -16,8 +12,8 @@ use source_states::Row;
 use source_states::State;
 
 // 6.2.6.1
-fn hard_connected(connection: u16, rerouting: u16) -> Row
-    ensures { λ r. ⌜ r ≡ pick (eqb connection rerouting) (hardConnected rerouting) (refuses NotHeld) ⌝ }
+fn hard_connect(connection: u16, rerouting: u16) -> Row
+    ensures { λ r. ⌜ r ≡ hardConnect connection rerouting ⌝ }
 {
     if connection == rerouting {
         let switch = Signal::naming(Kind::Switch, rerouting);
@@ -55,8 +51,8 @@ fn soft_connected(agreed: bool, incumbent: u16, rerouting: u16) -> Row
     )
 }
 
-fn of_two(connection: u16, agreed: bool, incumbent: u16, rerouting: u16) -> Row
-    ensures { λ r. ⌜ r ≡ pick (eqb connection incumbent) (refuses NotHeld) (pick (eqb connection rerouting) (softConnected agreed incumbent rerouting) (refuses NotHeld)) ⌝ }
+fn soft_connect(connection: u16, agreed: bool, incumbent: u16, rerouting: u16) -> Row
+    ensures { λ r. ⌜ r ≡ softConnect connection agreed incumbent rerouting ⌝ }
 {
     if connection == incumbent {
         return Row::refused(Answer::NotHeld);
@@ -74,10 +70,10 @@ pub fn connect_row(connection: u16, agreed: bool, state: State) -> Row
         State::Null => Row::refused(Answer::NoMeaning),
         State::Idle(_) => Row::refused(Answer::NoMeaning),
         State::HardTriggered => Row::refused(Answer::NoMeaning),
-        State::HardProceeding(rerouting) => hard_connected(connection, rerouting),
+        State::HardProceeding(rerouting) => hard_connect(connection, rerouting),
         State::SoftTriggered(_) => Row::refused(Answer::NoMeaning),
         State::SoftProceeding(incumbent, rerouting) => {
-            of_two(connection, agreed, incumbent, rerouting)
+            soft_connect(connection, agreed, incumbent, rerouting)
         }
         State::SoftInitiated(_, _) => Row::refused(Answer::NoMeaning),
         State::Awaiting(_, _) => Row::refused(Answer::NoMeaning),

@@ -1,3 +1,4 @@
+-- `source_releases::awaiting_incumbent_lost` meets its contract. Assumes nothing.
 use borrow.Author.Needs.{needs}
 use borrow.Author.Tests.{eq-eqb, ne-eqb}
 use Rattle.source_releases.proofs.awaiting_incumbent_lost.Statement.{statement}

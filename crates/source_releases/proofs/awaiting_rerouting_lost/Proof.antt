@@ -1,3 +1,4 @@
+-- `source_releases::awaiting_rerouting_lost` meets its contract. Assumes nothing.
 use borrow.Author.Needs.{needs}
 use Rattle.source_releases.proofs.awaiting_rerouting_lost.Statement.{statement}
 use Rattle.source_releases.proofs.awaiting_rerouting_lost.Tie as tie

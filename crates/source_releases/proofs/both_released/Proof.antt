@@ -1,3 +1,4 @@
+-- `source_releases::both_released` meets its contract. Assumes nothing.
 use borrow.Author.Needs.{needs}
 use Rattle.source_releases.proofs.both_released.Statement.{statement}
 use Rattle.source_releases.proofs.both_released.Tie as tie

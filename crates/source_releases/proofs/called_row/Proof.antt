@@ -1,3 +1,4 @@
+-- `source_releases::called_row` meets its contract. Assumes nothing.
 use borrow.Author.Needs.{needs}
 use Rattle.source_releases.proofs.called_row.Statement.{statement}
 use Rattle.source_releases.proofs.called_row.Tie as tie

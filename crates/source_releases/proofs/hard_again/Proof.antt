@@ -1,3 +1,4 @@
+-- `source_releases::hard_again` meets its contract. Assumes nothing.
 use borrow.Author.Needs.{needs}
 use Rattle.source_releases.proofs.hard_again.Statement.{statement}
 use Rattle.source_releases.proofs.hard_again.Tie as tie

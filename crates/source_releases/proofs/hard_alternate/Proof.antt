@@ -1,3 +1,4 @@
+-- `source_releases::hard_alternate` meets its contract. Assumes nothing.
 use borrow.Author.Needs.{needs}
 use Rattle.source_releases.proofs.hard_alternate.Statement.{statement}
 use Rattle.source_releases.proofs.hard_alternate.Tie as tie

@@ -1,3 +1,4 @@
+-- `source_releases::hard_given_up` meets its contract. Assumes nothing.
 use borrow.Author.Needs.{needs}
 use Rattle.source_releases.proofs.hard_given_up.Statement.{statement}
 use Rattle.source_releases.proofs.hard_given_up.Tie as tie

@@ -1,3 +1,4 @@
+-- `source_releases::hard_proceeding_lost` meets its contract. Assumes nothing.
 use borrow.Author.Needs.{needs}
 use Rattle.source_releases.proofs.hard_proceeding_lost.Statement.{statement}
 use Rattle.source_releases.proofs.hard_proceeding_lost.Tie as tie

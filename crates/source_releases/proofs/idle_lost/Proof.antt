@@ -1,3 +1,4 @@
+-- `source_releases::idle_lost` meets its contract. Assumes nothing.
 use borrow.Author.Needs.{needs}
 use Rattle.source_releases.proofs.idle_lost.Statement.{statement}
 use Rattle.source_releases.proofs.idle_lost.Tie as tie

@@ -1,3 +1,4 @@
+-- `source_releases::if_held` meets its contract. Assumes nothing.
 use borrow.Author.Needs.{needs}
 use borrow.Author.Tests.{eq-eqb, ne-eqb}
 use Rattle.source_releases.proofs.if_held.Statement.{statement}

@@ -1,3 +1,4 @@
+-- `source_releases::soft_alternate` meets its contract. Assumes nothing.
 use borrow.Author.Needs.{needs}
 use Rattle.source_releases.proofs.soft_alternate.Statement.{statement}
 use Rattle.source_releases.proofs.soft_alternate.Tie as tie

@@ -1,3 +1,4 @@
+-- `source_releases::soft_crankback` meets its contract. Assumes nothing.
 use borrow.Author.Needs.{needs}
 use Rattle.source_releases.proofs.soft_crankback.Statement.{statement}
 use Rattle.source_releases.proofs.soft_crankback.Tie as tie

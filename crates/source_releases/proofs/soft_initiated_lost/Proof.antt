@@ -1,3 +1,4 @@
+-- `source_releases::soft_initiated_lost` meets its contract. Assumes nothing.
 use borrow.Author.Needs.{needs}
 use Rattle.source_releases.proofs.soft_initiated_lost.Statement.{statement}
 use Rattle.source_releases.proofs.soft_initiated_lost.Tie as tie

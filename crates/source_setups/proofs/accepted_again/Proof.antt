@@ -1,3 +1,4 @@
+-- `source_setups::accepted_again` meets its contract. Assumes nothing.
 use borrow.Author.Needs.{needs}
 use Rattle.source_setups.proofs.accepted_again.Statement.{statement}
 use Rattle.source_setups.proofs.accepted_again.Tie as tie

@@ -1,3 +1,4 @@
+-- `source_setups::accepted_with` meets its contract. Assumes nothing.
 use borrow.Author.Needs.{needs}
 use Rattle.source_setups.proofs.accepted_with.Statement.{statement}
 use Rattle.source_setups.proofs.accepted_with.Tie as tie

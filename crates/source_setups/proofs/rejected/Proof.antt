@@ -1,3 +1,4 @@
+-- `source_setups::rejected` meets its contract. Assumes nothing.
 use borrow.Author.Needs.{needs}
 use Rattle.source_setups.proofs.rejected.Statement.{statement}
 use Rattle.source_setups.proofs.rejected.Tie as tie

@@ -1,3 +1,4 @@
+-- `source_setups::setup_checked` meets its contract. Assumes nothing.
 use mathlib.Core.Path.{sym, _∙_}
 use borrow.Author.Needs.{needs}
 use Rattle.source_setups.proofs.setup_checked.Statement.{statement}

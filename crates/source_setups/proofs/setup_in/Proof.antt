@@ -1,3 +1,4 @@
+-- `source_setups::setup_in` meets its contract. Assumes nothing.
 use borrow.Author.Needs.{needs}
 use Rattle.source_setups.proofs.setup_in.Statement.{statement}
 use Rattle.source_setups.proofs.setup_in.Tie as tie

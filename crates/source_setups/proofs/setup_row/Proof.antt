@@ -1,3 +1,4 @@
+-- `source_setups::setup_row` meets its contract. Assumes nothing.
 use borrow.Author.Needs.{needs}
 use Rattle.source_setups.proofs.setup_row.Statement.{statement}
 use Rattle.source_setups.proofs.setup_row.Tie as tie

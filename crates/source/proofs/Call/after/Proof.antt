@@ -1,3 +1,4 @@
+-- `source::Call::after` meets its contract. Assumes nothing.
 use borrow.Author.Needs.{needs}
 use Rattle.source.proofs.Call.after.Statement.{statement}
 use Rattle.source.proofs.Call.after.Tie as tie

@@ -1,3 +1,4 @@
+-- `source::Call::calling_release` meets its contract. Assumes nothing.
 use borrow.Author.Needs.{needs}
 use Rattle.source.proofs.Call.calling_release.Statement.{statement}
 use Rattle.source.proofs.Call.calling_release.Tie as tie

@@ -1,3 +1,4 @@
+-- `source::Call::carried` meets its contract. Assumes nothing.
 use borrow.Author.Needs.{needs}
 use Rattle.source.proofs.Call.carried.Statement.{statement}
 use Rattle.source.proofs.Call.carried.Tie as tie

@@ -1,3 +1,4 @@
+-- `source::Call::connect` meets its contract. Assumes nothing.
 use borrow.Author.Needs.{needs}
 use Rattle.source.proofs.Call.connect.Statement.{statement}
 use Rattle.source.proofs.Call.connect.Tie as tie

@@ -1,3 +1,4 @@
+-- `source::Call::expiry` meets its contract. Assumes nothing.
 use borrow.Author.Needs.{needs}
 use Rattle.source.proofs.Call.expiry.Statement.{statement}
 use Rattle.source.proofs.Call.expiry.Tie as tie

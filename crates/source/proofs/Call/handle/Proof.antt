@@ -1,3 +1,4 @@
+-- `source::Call::handle` meets its contract. Assumes nothing.
 use borrow.Author.Needs.{needs}
 use Rattle.source.proofs.Call.handle.Statement.{statement}
 use Rattle.source.proofs.Call.handle.Tie as tie

@@ -1,3 +1,4 @@
+-- `source::Call::no_path` meets its contract. Assumes nothing.
 use borrow.Author.Needs.{needs}
 use Rattle.source.proofs.Call.no_path.Statement.{statement}
 use Rattle.source.proofs.Call.no_path.Tie as tie

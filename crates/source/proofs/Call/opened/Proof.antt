@@ -1,3 +1,4 @@
+-- `source::Call::opened` meets its contract. Assumes nothing.
 use borrow.Author.Needs.{needs}
 use Rattle.source.proofs.Call.opened.Statement.{statement}
 use Rattle.source.proofs.Call.opened.Tie as tie

@@ -1,3 +1,4 @@
+-- `source::Call::path_found` meets its contract. Assumes nothing.
 use borrow.Author.Needs.{needs}
 use Rattle.source.proofs.Call.path_found.Statement.{statement}
 use Rattle.source.proofs.Call.path_found.Tie as tie

@@ -1,3 +1,4 @@
+-- `source::Call::ready` meets its contract. Assumes nothing.
 use borrow.Author.Needs.{needs}
 use Rattle.source.proofs.Call.ready.Statement.{statement}
 use Rattle.source.proofs.Call.ready.Tie as tie

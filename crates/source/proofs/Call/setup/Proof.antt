@@ -1,3 +1,4 @@
+-- `source::Call::setup` meets its contract. Assumes nothing.
 use borrow.Author.Needs.{needs}
 use Rattle.source.proofs.Call.setup.Statement.{statement}
 use Rattle.source.proofs.Call.setup.Tie as tie

@@ -1,3 +1,4 @@
+-- `source::Call::trigger` meets its contract. Assumes nothing.
 use borrow.Author.Needs.{needs}
 use Rattle.source.proofs.Call.trigger.Statement.{statement}
 use Rattle.source.proofs.Call.trigger.Tie as tie

@@ -1,3 +1,4 @@
+-- `source_endings::expiry::expiry_row` meets its contract. Assumes nothing.
 use borrow.Author.Needs.{needs}
 use Rattle.source_endings.proofs.expiry.expiry_row.Statement.{statement}
 use Rattle.source_endings.proofs.expiry.expiry_row.Tie as tie

@@ -12,13 +12,13 @@ returns-3 : tie.Need-returns-3
 returns-3 c = simp (c .refused3 .ensures, c .before .enum-told3 .given .1)
 
 returns-4 : tie.Need-returns-4
-returns-4 c = simp (c .hard-connected .ensures, c .before .before .state .given .1)
+returns-4 c = simp (c .hard-connect .ensures, c .before .before .state .given .1)
 
 returns-5 : tie.Need-returns-5
 returns-5 c = simp (c .refused4 .ensures, c .before .enum-told4 .given .1)
 
 returns-6 : tie.Need-returns-6
-returns-6 c = simp (c .of-two .ensures, c .before .before .state2 .given .1)
+returns-6 c = simp (c .soft-connect .ensures, c .before .before .state2 .given .1)
 
 returns-7 : tie.Need-returns-7
 returns-7 c = simp (c .refused5 .ensures, c .before .enum-told5 .given .1)

@@ -1,3 +1,4 @@
+-- `source_requests::path::hard_path` meets its contract. Assumes nothing.
 use borrow.Author.Needs.{needs}
 use Rattle.source_requests.proofs.path.hard_path.Statement.{statement}
 use Rattle.source_requests.proofs.path.hard_path.Tie as tie

@@ -1,3 +1,4 @@
+-- `source_requests::path::path_row` meets its contract. Assumes nothing.
 use borrow.Author.Needs.{needs}
 use Rattle.source_requests.proofs.path.path_row.Statement.{statement}
 use Rattle.source_requests.proofs.path.path_row.Tie as tie

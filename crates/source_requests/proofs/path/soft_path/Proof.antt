@@ -1,3 +1,4 @@
+-- `source_requests::path::soft_path` meets its contract. Assumes nothing.
 use borrow.Author.Needs.{needs}
 use Rattle.source_requests.proofs.path.soft_path.Statement.{statement}
 use Rattle.source_requests.proofs.path.soft_path.Tie as tie

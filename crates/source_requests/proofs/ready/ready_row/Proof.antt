@@ -1,3 +1,4 @@
+-- `source_requests::ready::ready_row` meets its contract. Assumes nothing.
 use borrow.Author.Needs.{needs}
 use Rattle.source_requests.proofs.ready.ready_row.Statement.{statement}
 use Rattle.source_requests.proofs.ready.ready_row.Tie as tie

@@ -1,3 +1,4 @@
+-- `source_requests::trigger::trigger_in` meets its contract. Assumes nothing.
 use borrow.Author.Needs.{needs}
 use Rattle.source_requests.proofs.trigger.trigger_in.Statement.{statement}
 use Rattle.source_requests.proofs.trigger.trigger_in.Tie as tie

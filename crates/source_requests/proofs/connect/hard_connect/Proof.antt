@@ -1,7 +1,7 @@
 use borrow.Author.Needs.{needs}
 use borrow.Author.Tests.{eq-eqb, ne-eqb}
-use Rattle.source_requests.proofs.connect.hard_connected.Statement.{statement}
-use Rattle.source_requests.proofs.connect.hard_connected.Tie as tie
+use Rattle.source_requests.proofs.connect.hard_connect.Statement.{statement}
+use Rattle.source_requests.proofs.connect.hard_connect.Tie as tie
 
 returns : tie.Need-returns
 returns c = simp (c .decided .ensures, c .before .naming .ensures, eq-eqb _ _ (c .before .before .if1 .taken))
@@ -9,8 +9,8 @@ returns c = simp (c .decided .ensures, c .before .naming .ensures, eq-eqb _ _ (c
 returns-2 : tie.Need-returns-2
 returns-2 c = simp (c .refused .ensures, ne-eqb _ _ (c .before .if1 .left))
 
-pub hard-connected-spec : {M : Type 1} → statement M
-hard-connected-spec =
+pub hard-connect-spec : {M : Type 1} → statement M
+hard-connect-spec =
     tie.close
     (tie.spec
     (λ c κs. search needs)

@@ -1,7 +1,7 @@
 use borrow.Author.Needs.{needs}
 use borrow.Author.Tests.{eq-eqb, ne-eqb}
-use Rattle.source_requests.proofs.connect.of_two.Statement.{statement}
-use Rattle.source_requests.proofs.connect.of_two.Tie as tie
+use Rattle.source_requests.proofs.connect.soft_connect.Statement.{statement}
+use Rattle.source_requests.proofs.connect.soft_connect.Tie as tie
 
 returns : tie.Need-returns
 returns c = simp (c .refused .ensures, eq-eqb _ _ (c .before .if1 .taken))
@@ -12,8 +12,8 @@ returns-2 c = simp (c .soft-connected .ensures, ne-eqb _ _ (c .before .before .i
 returns-3 : tie.Need-returns-3
 returns-3 c = simp (c .refused2 .ensures, ne-eqb _ _ (c .before .before .if1 .left), ne-eqb _ _ (c .before .if2 .left))
 
-pub of-two-spec : {M : Type 1} → statement M
-of-two-spec =
+pub soft-connect-spec : {M : Type 1} → statement M
+soft-connect-spec =
     tie.close
     (tie.spec
     (λ c κs. search needs)
