@@ -21,6 +21,10 @@ abbrev pub softTriggeredCause : Bool → ReceivedCause → SentCause
 softTriggeredCause hard NoCause = pick hard (Numbered outside) Absent
 softTriggeredCause hard (WithCause k) = Absent
 
+-- the incumbent alone is released
+abbrev pub incumbentEnded : ℕ → SentCause → Row
+incumbentEnded i cause = ends (releaseOf IncumbentRelease i cause ∷ [])
+
 -- both held connections are released with the cause passed on (01, "Release from the calling side"; 6.2.4.6 cases 1 and 2)
 abbrev pub bothEnded : Bool → ReceivedCause → ℕ → ℕ → Row
 bothEnded hard cause i r =
@@ -31,13 +35,13 @@ abbrev pub callingRow : Bool → ReceivedCause → State → Row
 -- decision 26
 callingRow hard cause Null = refuses NoMeaning
 -- 6.2.4.2 cases 1 and 2
-callingRow hard cause (Idle i) = ends (releaseOf IncumbentRelease i (passed hard cause) ∷ [])
+callingRow hard cause (Idle i) = incumbentEnded i (passed hard cause)
 -- 6.2.4.3
 callingRow hard cause HardTriggered = ends (timerStop ∷ [])
 -- 6.2.4.4 cases 1 and 2, which do not read the hard service (decision 6)
 callingRow hard cause (HardProceeding r) = ends (timerStop ∷ releaseOf ReroutingRelease r (passed true cause) ∷ [])
 -- 6.2.4.5
-callingRow hard cause (SoftTriggered i) = ends (releaseOf IncumbentRelease i (softTriggeredCause hard cause) ∷ [])
+callingRow hard cause (SoftTriggered i) = incumbentEnded i (softTriggeredCause hard cause)
 -- 6.2.4.6 cases 1 and 2
 callingRow hard cause (SoftProceeding i r) = bothEnded hard cause i r
 -- 01, "Release from the calling side"; D18-1 to 3

@@ -1,6 +1,6 @@
 // A release from the calling side: every call ends.
 ghost use mathlib.Core.Path.{_≡_};
-ghost use Rattle.source_endings.specs.Calling.{callingRow, bothEnded, softTriggeredCause};
+ghost use Rattle.source_endings.specs.Calling.{callingRow, incumbentEnded, bothEnded, softTriggeredCause};
 use signal::Answer;
 use signal::CauseCode;
 use signal::Kind;
@@ -27,6 +27,18 @@ fn soft_triggered_cause(hard: bool, cause: ReceivedCause) -> SentCause
     }
 }
 
+fn incumbent_ended(incumbent: u16, cause: SentCause) -> Row
+    ensures { λ r. ⌜ r ≡ incumbentEnded incumbent cause ⌝ }
+{
+    let sent = Signal::release(
+        Kind::IncumbentRelease,
+        incumbent,
+        cause,
+        CauseCode::Section66,
+    );
+    Row::decided(Change::Ends, sent, Signal::NONE)
+}
+
 fn both_ended(hard: bool, cause: ReceivedCause, incumbent: u16, rerouting: u16) -> Row
     ensures { λ r. ⌜ r ≡ bothEnded hard cause incumbent rerouting ⌝ }
 {
@@ -51,15 +63,7 @@ pub fn calling_row(hard: bool, cause: ReceivedCause, state: State) -> Row
 {
     match state {
         State::Null => Row::refused(Answer::NoMeaning),
-        State::Idle(incumbent) => {
-            let sent = Signal::release(
-                Kind::IncumbentRelease,
-                incumbent,
-                cause.passed(hard),
-                CauseCode::Section66,
-            );
-            Row::decided(Change::Ends, sent, Signal::NONE)
-        }
+        State::Idle(incumbent) => incumbent_ended(incumbent, cause.passed(hard)),
         State::HardTriggered => Row::decided(Change::Ends, Signal::TIMER_STOP, Signal::NONE),
         State::HardProceeding(rerouting) => {
             let sent = Signal::release(
@@ -71,14 +75,7 @@ pub fn calling_row(hard: bool, cause: ReceivedCause, state: State) -> Row
             Row::decided(Change::Ends, Signal::TIMER_STOP, sent)
         }
         State::SoftTriggered(incumbent) => {
-            let reason = soft_triggered_cause(hard, cause);
-            let sent = Signal::release(
-                Kind::IncumbentRelease,
-                incumbent,
-                reason,
-                CauseCode::Section66,
-            );
-            Row::decided(Change::Ends, sent, Signal::NONE)
+            incumbent_ended(incumbent, soft_triggered_cause(hard, cause))
         }
         State::SoftProceeding(incumbent, rerouting) => {
             both_ended(hard, cause, incumbent, rerouting)

@@ -271,39 +271,22 @@ pub fn called_row(
         State::Null => Row::refused(Answer::NoMeaning),
         State::Idle(i) => if_held(connection, i, idle_lost(hard, cause)),
         State::HardTriggered => Row::refused(Answer::NotHeld),
-        State::HardProceeding(r) => if_held(
-            connection,
-            r,
-            hard_proceeding_lost(cause, crankback, next),
-        ),
+        State::HardProceeding(r) => {
+            let row = hard_proceeding_lost(cause, crankback, next);
+            if_held(connection, r, row)
+        }
         State::SoftTriggered(i) => if_held(connection, i, soft_triggered_lost(hard, cause)),
         State::SoftProceeding(i, r) => {
-            let other = soft_crankback(i, crankback, next);
-            by_connection(
-                connection,
-                i,
-                r,
-                soft_proceeding_lost(hard, cause, r),
-                other,
-            )
+            let first = soft_proceeding_lost(hard, cause, r);
+            by_connection(connection, i, r, first, soft_crankback(i, crankback, next))
         }
         State::SoftInitiated(i, r) => {
-            by_connection(
-                connection,
-                i,
-                r,
-                soft_initiated_lost(hard, cause, r),
-                back_to_idle(i),
-            )
+            let first = soft_initiated_lost(hard, cause, r);
+            by_connection(connection, i, r, first, back_to_idle(i))
         }
         State::Awaiting(i, r) => {
-            by_connection(
-                connection,
-                i,
-                r,
-                awaiting_incumbent_lost(cause, r),
-                awaiting_rerouting_lost(cause, i),
-            )
+            let first = awaiting_incumbent_lost(cause, r);
+            by_connection(connection, i, r, first, awaiting_rerouting_lost(cause, i))
         }
     }
 }

@@ -19,7 +19,7 @@ returns-5 : tie.Need-returns-5
 returns-5 c = simp (c .if-held3 .ensures, c .before .soft-triggered-lost .ensures, c .before .before .before .state3 .given .1)
 
 returns-6 : tie.Need-returns-6
-returns-6 c = simp (c .by-connection .ensures, c .before .soft-proceeding-lost .ensures, c .before .before .soft-crankback .ensures, c .before .before .before .before .state4 .given .1)
+returns-6 c = simp (c .by-connection .ensures, c .before .soft-crankback .ensures, c .before .before .soft-proceeding-lost .ensures, c .before .before .before .before .state4 .given .1)
 
 returns-7 : tie.Need-returns-7
 returns-7 c = simp (c .by-connection2 .ensures, c .before .back-to-idle .ensures, c .before .before .soft-initiated-lost .ensures, c .before .before .before .before .state5 .given .1)

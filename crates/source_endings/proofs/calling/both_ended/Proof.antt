@@ -1,3 +1,4 @@
+-- `source_endings::calling::both_ended` meets its contract. Assumes nothing.
 use borrow.Author.Needs.{needs}
 use Rattle.source_endings.proofs.calling.both_ended.Statement.{statement}
 use Rattle.source_endings.proofs.calling.both_ended.Tie as tie

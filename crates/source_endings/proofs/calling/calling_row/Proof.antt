@@ -1,3 +1,4 @@
+-- `source_endings::calling::calling_row` meets its contract. Assumes nothing.
 use borrow.Author.Needs.{needs}
 use Rattle.source_endings.proofs.calling.calling_row.Statement.{statement}
 use Rattle.source_endings.proofs.calling.calling_row.Tie as tie
@@ -6,16 +7,16 @@ returns : tie.Need-returns
 returns c = simp (c .refused .ensures, c .before .enum-told .given .1)
 
 returns-2 : tie.Need-returns-2
-returns-2 c = simp (c .decided .ensures, c .before .release .ensures, c .before .before .passed .ensures, c .before .before .before .before .state .given .1)
+returns-2 c = simp (c .incumbent-ended .ensures, c .before .passed .ensures, c .before .before .before .state .given .1)
 
 returns-3 : tie.Need-returns-3
-returns-3 c = simp (c .decided2 .ensures, c .before .enum-told2 .given .1)
+returns-3 c = simp (c .decided .ensures, c .before .enum-told2 .given .1)
 
 returns-4 : tie.Need-returns-4
-returns-4 c = simp (c .decided3 .ensures, c .before .release2 .ensures, c .before .before .passed2 .ensures, c .before .before .before .before .state2 .given .1)
+returns-4 c = simp (c .decided2 .ensures, c .before .release .ensures, c .before .before .passed2 .ensures, c .before .before .before .before .state2 .given .1)
 
 returns-5 : tie.Need-returns-5
-returns-5 c = simp (c .decided4 .ensures, c .before .release3 .ensures, c .before .before .soft-triggered-cause .ensures, c .before .before .before .before .state3 .given .1)
+returns-5 c = simp (c .incumbent-ended2 .ensures, c .before .soft-triggered-cause .ensures, c .before .before .before .state3 .given .1)
 
 returns-6 : tie.Need-returns-6
 returns-6 c = simp (c .both-ended .ensures, c .before .before .state4 .given .1)
@@ -35,7 +36,6 @@ calling-row-spec =
     (λ c. search needs)
     (λ c κs. search needs)
     (λ c κs. search needs)
-    (λ c κs. search needs)
     (λ c. search needs)
     (λ c κs. search needs)
     (λ c. search needs)
@@ -43,7 +43,6 @@ calling-row-spec =
     (λ c κs. search needs)
     (λ c κs. search needs)
     (λ c. search needs)
-    (λ c κs. search needs)
     (λ c κs. search needs)
     (λ c κs. search needs)
     (λ c. search needs)

@@ -1,3 +1,4 @@
+-- `source_endings::calling::soft_triggered_cause` meets its contract. Assumes nothing.
 use borrow.Author.Needs.{needs}
 use Rattle.source_endings.proofs.calling.soft_triggered_cause.Statement.{statement}
 use Rattle.source_endings.proofs.calling.soft_triggered_cause.Tie as tie

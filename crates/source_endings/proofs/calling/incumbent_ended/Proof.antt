@@ -1,0 +1,15 @@
+-- `source_endings::calling::incumbent_ended` meets its contract. Assumes nothing.
+use borrow.Author.Needs.{needs}
+use Rattle.source_endings.proofs.calling.incumbent_ended.Statement.{statement}
+use Rattle.source_endings.proofs.calling.incumbent_ended.Tie as tie
+
+returns : tie.Need-returns
+returns c = simp (c .decided .ensures, c .before .release .ensures)
+
+pub incumbent-ended-spec : {M : Type 1} → statement M
+incumbent-ended-spec =
+    tie.close
+    (tie.spec
+    (λ c κs. search needs)
+    (λ c κs. search needs)
+    returns)
