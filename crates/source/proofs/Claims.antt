@@ -29,8 +29,9 @@ use Rattle.source_states.specs.declared.Row.{Row}
 use Rattle.source_states.specs.States.{isNull, heldIn}
 use Rattle.source_states.specs.Checks.{meaningless, namesNotHeld, asksNumber, numbersSpent, isSpent, isBusy, storedWanted, firstOf, reported, AllAre}
 use Rattle.source_states.specs.Lawful.{Lawful, Quiet, Takes, GoesOn, Rejects, answerTo, stateAfter, newNumber, givenBy, storedBy, endedGot}
-use Rattle.source_requests.proofs.Laws.{trigger-lawful, path-lawful, no-path-lawful, connect-lawful, ready-lawful}
-use Rattle.source_setups.proofs.Laws.{setup-lawful}
+use Rattle.source_requests.proofs.Laws.{trigger-lawful, path-lawful, no-path-lawful}
+use Rattle.source_connects.proofs.Laws.{connect-lawful}
+use Rattle.source_setups.proofs.Laws.{setup-lawful, ready-lawful}
 use Rattle.source_releases.proofs.Laws.{called-lawful}
 use Rattle.source_endings.proofs.Laws.{calling-lawful, expiry-lawful}
 use Rattle.source.specs.declared.Call.{Call}

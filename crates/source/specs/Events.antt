@@ -3,9 +3,9 @@ use Rattle.signal.specs.Numbers.{freshAfter}
 use Rattle.source_states.specs.declared.Row.{Row}
 use Rattle.source_requests.specs.Trigger.{triggerRow}
 use Rattle.source_requests.specs.Path.{pathRow, noPathRow}
-use Rattle.source_requests.specs.Connect.{connectRow}
+use Rattle.source_connects.specs.Connect.{connectRow}
 use Rattle.source_setups.specs.Setup.{setupRow}
-use Rattle.source_requests.specs.Ready.{readyRow}
+use Rattle.source_setups.specs.Ready.{readyRow}
 use Rattle.source_endings.specs.Calling.{callingRow}
 use Rattle.source_releases.specs.Called.{calledRow}
 use Rattle.source_endings.specs.Expiry.{expiryRow}

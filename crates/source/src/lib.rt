@@ -1,7 +1,7 @@
 // The source node's call: its record, and one method for each event. A method takes the old record and hands back the new one, beside the answer and
 // the four signals of the event.
 //
-// Any record may be given, fit or not: the methods have no `requires`. What an event does stands in the rows (source_requests, source_setups, source_releases, source_endings); here a
+// Any record may be given, fit or not: the methods have no `requires`. What an event does stands in the rows (source_requests, source_connects, source_setups, source_releases, source_endings); here a
 // row is carried out on the record, in one place for all events.
 ghost use mathlib.Core.Path.{_≡_};
 ghost use Rattle.source.specs.Record.{movedTo, callAfter, carriedOut, openedFor};
@@ -137,7 +137,7 @@ impl Call {
         ensures { λ r. ⌜ r ≡ eventOf self (Connect connection agreed) ⌝ }
     {
         let state = self.state;
-        self.carried(source_requests::connect_row(connection, agreed, state))
+        self.carried(source_connects::connect_row(connection, agreed, state))
     }
 
     pub fn setup(self, code: Switchover, number: u32) -> Outcome
@@ -153,7 +153,7 @@ impl Call {
         ensures { λ r. ⌜ r ≡ eventOf self Ready ⌝ }
     {
         let state = self.state;
-        self.carried(source_requests::ready_row(state))
+        self.carried(source_setups::ready_row(state))
     }
 
     pub fn expiry(self) -> Outcome

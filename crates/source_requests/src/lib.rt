@@ -1,11 +1,7 @@
-// The rows that bring a connection up from this end: soft trigger, the answers of path choice, connect, ready.
-mod connect;
+// The rows of a reroute operation that this end starts: soft trigger, and the answers of path choice.
 mod path;
-mod ready;
 mod trigger;
 
-pub use connect::connect_row;
 pub use path::no_path_row;
 pub use path::path_row;
-pub use ready::ready_row;
 pub use trigger::trigger_row;

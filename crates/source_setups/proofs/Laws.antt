@@ -1,4 +1,4 @@
--- Every row of a setup keeps the laws, whatever it is. Assumes nothing.
+-- Every row of a setup, and of "ready", keeps the laws, whatever it is. Assumes nothing.
 use Prim.Native.Nat.{ℕ}
 use native.Mathlib.Omega.{arith}
 use mathlib.Core.Path.{_≡_, refl}
@@ -12,11 +12,12 @@ use Rattle.signal.specs.declared.Switchover.{Switchover}
 use Rattle.signal.specs.Numbers.{isClearing, isLate}
 use Rattle.source_states.specs.declared.State.{State}
 use Rattle.source_states.specs.declared.State.the-variants.{Null, Idle, HardTriggered, HardProceeding, SoftTriggered, SoftProceeding, SoftInitiated, Awaiting}
-use Rattle.source_states.specs.declared.Event.the-variants.{Setup}
+use Rattle.source_states.specs.declared.Event.the-variants.{Setup, Ready}
 use Rattle.source_states.specs.Rows.{refuses}
 use Rattle.source_states.specs.Checks.{hasSymmetric}
 use Rattle.source_states.specs.Lawful.{Lawful}
 use Rattle.source_setups.specs.Setup.{setupRow}
+use Rattle.source_setups.specs.Ready.{readyRow}
 
 -- a setup, where the call has symmetric soft: by row 1, row 2, and the state
 module _ (hard : Bool) (remote : ℕ) (code : Switchover) (number : ℕ) where
@@ -75,3 +76,14 @@ module _ (hard : Bool) (remote : ℕ) (code : Switchover) (number : ℕ) where
   setup-lawful NoSoft next s = without NoSoft next refl s
   setup-lawful Asymmetric next s = without Asymmetric next refl s
   setup-lawful Symmetric next s = symmetric next s (isClearing code) (isLate number remote) refl refl
+
+module _ (hard : Bool) (soft : Soft) (remote : ℕ) (next : Fresh) where
+  pub ready-lawful : (s : State) → Lawful hard soft remote next s Ready (readyRow s)
+  ready-lawful Null = search arith
+  ready-lawful (Idle i) = search arith
+  ready-lawful HardTriggered = search arith
+  ready-lawful (HardProceeding r) = search arith
+  ready-lawful (SoftTriggered i) = search arith
+  ready-lawful (SoftProceeding i r) = search arith
+  ready-lawful (SoftInitiated i r) = search arith
+  ready-lawful (Awaiting i r) = search arith

@@ -1,4 +1,4 @@
--- The rows of a setup agree with the outside witnesses, by computation. Assumes nothing.
+-- The rows of a setup and of "ready" agree with the outside witnesses, by computation. Assumes nothing.
 use mathlib.Core.Path.{_≡_, refl}
 use mathlib.Core.Bool.{true}
 use Rattle.source_setups.specs.Witness.{appendixAgrees, annexAgrees}

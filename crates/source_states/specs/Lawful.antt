@@ -123,26 +123,48 @@ Balanced s got row =
     ≡ count x (heldIn (stateAfter s (row .change))) + (count x (endedGot (row .change) got) + count x (endedSent (row .signals)))
 
 pub record Lawful (hard : Bool) (soft : Soft) (remote : ℕ) (next : Fresh) (s : State) (e : Event) (row : Row) : Type 0 where
+  -- the answer is that of the first check that applies
   pub answered : answerNumber (answerTo (row .change)) ≡ answerWanted soft remote next s e
+  -- a refusal sends nothing
   pub quiet : Quiet (row .change) (row .signals)
+  -- a number that is given is the next one
   pub takes : Takes next (row .change)
+  -- an incarnation number is stored exactly by an accepted setup
   pub stored : storedBy (row .change) ≡ storedWanted soft remote next s e
+  -- a rejection is sent exactly where a setup is turned away
   pub rejected : ofKind Rejection (row .signals) ≡ rejectionWanted soft remote s e
+  -- Cause code #21, exactly where it belongs
   pub code21 : withCode21 (row .signals) ≡ code21Wanted hard s e
+  -- a rejected setup leaves the record, and sends nothing else
   pub rejects : Rejects (rejectionWanted soft remote s e) row
+  -- Null is reached only by ending
   pub goesOn : GoesOn (row .change)
+  -- four places
   pub four : length (row .signals) ≡ 4
+  -- from the front, in the printed order
   pub ordered : inOrder (row .signals) ≡ true
+  -- timer start
   pub starts : ofKind TimerStart (row .signals) ≡ startsWanted (isHard s) (isHard (stateAfter s (row .change)))
+  -- timer stop
   pub stops : ofKind TimerStop (row .signals) ≡ stopsWanted (isExpiry e) (isHard s) (isHard (stateAfter s (row .change)))
+  -- a switch names the incumbent after
   pub switched : AllIncumbent (stateAfter s (row .change)) (named (ofKind Switch (row .signals)))
+  -- the calling side is told of an end that is not its own
   pub told : named (ofKind CallingRelease (row .signals)) ≡ callingWanted (not (isNull s)) (not (isNull (stateAfter s (row .change)))) e
+  -- releases name their own connection, as held before
   pub incumbents : AllAre (incumbentOf s) (named (ofKind IncumbentRelease (row .signals)))
   pub reroutings : AllAre (reroutingOf s) (named (ofKind ReroutingRelease (row .signals)))
+  -- a connect names the rerouting connection after
   pub connects : AllAre (reroutingOf (stateAfter s (row .change))) (named (ofKind ConnectRequest (row .signals)))
+  -- a setup names the number given
   pub setups : AllAre (newNumber (row .change)) (named (ofKind SetupRequest (row .signals)))
+  -- a cause "as received" came
   pub honest : Honest (receivedIn e) (row .signals)
+  -- an unused place is none
   pub blank : Nones (ofKind NoSignal (row .signals))
+  -- two places at least are unused (decision 18)
   pub two : 2 ≤ length (ofKind NoSignal (row .signals))
+  -- a number is given exactly with a setup sent or accepted
   pub given : length (ofKind SetupRequest (row .signals)) + length (storedBy (row .change)) ≡ length (givenBy (row .change))
+  -- every connection number is accounted for
   pub balanced : Balanced s (reported e) row

@@ -1,0 +1,24 @@
+use borrow.Author.Needs.{needs}
+use borrow.Author.Tests.{eq-eqb, ne-eqb}
+use Rattle.source_connects.proofs.soft_connect.Statement.{statement}
+use Rattle.source_connects.proofs.soft_connect.Tie as tie
+
+returns : tie.Need-returns
+returns c = simp (c .refused .ensures, eq-eqb _ _ (c .before .if1 .taken))
+
+returns-2 : tie.Need-returns-2
+returns-2 c = simp (c .soft-connected .ensures, ne-eqb _ _ (c .before .before .if1 .left), eq-eqb _ _ (c .before .if2 .taken))
+
+returns-3 : tie.Need-returns-3
+returns-3 c = simp (c .refused2 .ensures, ne-eqb _ _ (c .before .before .if1 .left), ne-eqb _ _ (c .before .if2 .left))
+
+pub soft-connect-spec : {M : Type 1} → statement M
+soft-connect-spec =
+    tie.close
+    (tie.spec
+    (λ c κs. search needs)
+    returns
+    (λ c κs. search needs)
+    returns-2
+    (λ c κs. search needs)
+    returns-3)

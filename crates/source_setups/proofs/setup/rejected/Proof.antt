@@ -1,0 +1,15 @@
+-- `source_setups::setup::rejected` meets its contract. Assumes nothing.
+use borrow.Author.Needs.{needs}
+use Rattle.source_setups.proofs.setup.rejected.Statement.{statement}
+use Rattle.source_setups.proofs.setup.rejected.Tie as tie
+
+returns : tie.Need-returns
+returns c = simp (c .decided .ensures, c .before .rejection .ensures)
+
+pub rejected-spec : {M : Type 1} → statement M
+rejected-spec =
+    tie.close
+    (tie.spec
+    (λ c κs. search needs)
+    (λ c κs. search needs)
+    returns)
