@@ -1,7 +1,7 @@
 -- What a row of signals says, counted: the natural terms in which claims speak of signals. None of it mentions a state or a row. Assumes nothing.
 use Prim.Native.Nat.{ℕ, _+_}
 use mathlib.Core.Path.{_≡_}
-use mathlib.Core.Bool.{Bool, true, false, _&&_, _||_}
+use mathlib.Core.Bool.{Bool, true, false, _&&_, _||_, cond}
 use mathlib.Core.List.{List, [], _∷_, _++_}
 use lib.Dec.{eqb, ltb}
 use Rattle.signal.specs.declared.Kind.{Kind}
@@ -13,11 +13,10 @@ use Rattle.signal.specs.declared.ReceivedCause.the-variants.{WithCause}
 use Rattle.signal.specs.declared.CauseCode.{CauseCode}
 use Rattle.signal.specs.declared.CauseCode.the-variants.{Section66, CallRejected}
 use Rattle.signal.specs.declared.Signal.{Signal}
-use Rattle.signal.specs.Choice.{pick}
 
 -- whether x is y, as a number
 unfoldable pub one : ℕ → ℕ → ℕ
-one x y = pick (eqb x y) 1 0
+one x y = cond (eqb x y) 1 0
 
 -- how often x stands in a list
 abbrev pub count : ℕ → List ℕ → ℕ
@@ -40,7 +39,7 @@ kindNumber Rejection = 9
 -- the signals of one kind, in order
 abbrev pub ofKind : Kind → List Signal → List Signal
 ofKind k [] = []
-ofKind k (s ∷ more) = pick (eqb (kindNumber (s .kind)) (kindNumber k)) (s ∷ ofKind k more) (ofKind k more)
+ofKind k (s ∷ more) = cond (eqb (kindNumber (s .kind)) (kindNumber k)) (s ∷ ofKind k more) (ofKind k more)
 
 -- the connections that signals name
 abbrev pub named : List Signal → List ℕ
@@ -51,7 +50,7 @@ named (s ∷ more) = s .connection ∷ named more
 abbrev pub endedSent : List Signal → List ℕ
 endedSent [] = []
 endedSent (s ∷ more) =
-    pick (eqb (kindNumber (s .kind)) 5 || eqb (kindNumber (s .kind)) 6) (s .connection ∷ endedSent more) (endedSent more)
+    cond (eqb (kindNumber (s .kind)) 5 || eqb (kindNumber (s .kind)) 6) (s .connection ∷ endedSent more) (endedSent more)
 
 abbrev pub isCallRejected : CauseCode → Bool
 isCallRejected Section66 = false
@@ -60,7 +59,7 @@ isCallRejected CallRejected = true
 -- the signals with Cause code #21
 abbrev pub withCode21 : List Signal → List Signal
 withCode21 [] = []
-withCode21 (s ∷ more) = pick (isCallRejected (s .code)) (s ∷ withCode21 more) (withCode21 more)
+withCode21 (s ∷ more) = cond (isCallRejected (s .code)) (s ∷ withCode21 more) (withCode21 more)
 
 -- the printed order: timer, switch, calling-side release, incumbent release, rerouting release, setup or connect or reject (01, "Signals")
 abbrev pub turnOf : Kind → ℕ

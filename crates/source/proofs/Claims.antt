@@ -3,7 +3,7 @@
 use Prim.Native.Nat.{ℕ, _+_, _≤_, _<_}
 use native.Mathlib.Omega.{arith}
 use mathlib.Core.Path.{_≡_, refl, sym, ap, _∙_}
-use mathlib.Core.Bool.{Bool, true, false, not, _&&_, _||_, false≢true, true≢false}
+use mathlib.Core.Bool.{Bool, true, false, not, _&&_, _||_, false≢true, true≢false, cond}
 use mathlib.Core.List.{List, [], _∷_, _++_}
 use mathlib.Core.Logic.{_↔_, _⊎_, inl, inr}
 use lib.Dec.{eqb, ltb}
@@ -15,7 +15,6 @@ use Rattle.signal.specs.declared.Fresh.{Fresh}
 use Rattle.signal.specs.declared.Fresh.the-variants.{Next, Spent}
 use Rattle.signal.specs.declared.Kind.the-variants.{SetupRequest}
 use Rattle.signal.specs.declared.Signal.{Signal}
-use Rattle.signal.specs.Choice.{pick}
 use Rattle.signal.specs.Signals.{places}
 use Rattle.signal.specs.Numbers.{answerNumber, freshAfter, isClearing, isLate}
 use Rattle.signal.specs.Counting.{one, count, ofKind, named, endedSent}
@@ -145,7 +144,7 @@ new-last c (Accepts s m number) sent n all = all
 new-last c Ends sent n all = none-named _ (ofKind SetupRequest sent) (omega arith)
 
 -- what the record says was given and received, and what the change says
-given-same : (c : Call) (ch : Change) → Takes (freshAfter (c .last)) ch → pick (ltb (c .last) (callAfter c ch .last)) (callAfter c ch .last ∷ []) [] ≡ givenBy ch
+given-same : (c : Call) (ch : Change) → Takes (freshAfter (c .last)) ch → cond (ltb (c .last) (callAfter c ch .last)) (callAfter c ch .last ∷ []) [] ≡ givenBy ch
 given-same c (Refuses a) t = rw (le-ltb (c .last) (c .last) (omega arith))
 given-same c Stays t = rw (le-ltb (c .last) (c .last) (omega arith))
 given-same c (Moves s) t = rw (le-ltb (c .last) (c .last) (omega arith))
@@ -178,7 +177,7 @@ one-most : (x y : ℕ) → one x y ≤ 1
 unfolding one
 one-most x y = by-test (eqb x y)
   where
-    by-test : (b : Bool) → pick b 1 0 ≤ 1
+    by-test : (b : Bool) → cond b 1 0 ≤ 1
     by-test true = omega arith
     by-test false = omega arith
 
@@ -186,7 +185,7 @@ one-same : (x y : ℕ) → 1 ≤ one x y → x ≡ y
 unfolding one
 one-same x y = by-test (eqb x y) refl
   where
-    by-test : (b : Bool) → eqb x y ≡ b → 1 ≤ pick b 1 0 → x ≡ y
+    by-test : (b : Bool) → eqb x y ≡ b → 1 ≤ cond b 1 0 → x ≡ y
     by-test true p h = eqb-true x y p
     by-test false p h = absurd (omega arith)
 
@@ -255,7 +254,7 @@ module _ (soft : Soft) (remote : ℕ) (next : Fresh) (s : State) where
   abbrev Raised : ℕ → Type 0
   Raised n = (n ≡ remote) ⊎ (remote < n)
 
-  by-checks : (number : ℕ) (without-meaning clears late busy spent : Bool) → (late ≡ false → remote < number) → Raised (claim.orElse remote (pick (without-meaning || (not (clears && (not late && not busy)) || spent)) [] (number ∷ [])))
+  by-checks : (number : ℕ) (without-meaning clears late busy spent : Bool) → (late ≡ false → remote < number) → Raised (claim.orElse remote (cond (without-meaning || (not (clears && (not late && not busy)) || spent)) [] (number ∷ [])))
   by-checks number true clears late busy spent f = inl refl
   by-checks number false false late busy spent f = inl refl
   by-checks number false true true busy spent f = inl refl

@@ -4,7 +4,7 @@
 -- the rows. Proofs: proofs/Claims.antt. Assumes nothing.
 use Prim.Native.Nat.{ℕ, _+_, _≤_, _<_}
 use mathlib.Core.Path.{_≡_}
-use mathlib.Core.Bool.{true, false, not}
+use mathlib.Core.Bool.{true, false, not, cond}
 use mathlib.Core.List.{List, [], _∷_, _++_}
 use mathlib.Core.Logic.{_↔_, _⊎_}
 use lib.Dec.{ltb}
@@ -15,7 +15,6 @@ use Rattle.signal.specs.declared.Wanted.{Wanted}
 use Rattle.signal.specs.declared.Wanted.the-variants.{Unnamed, Named}
 use Rattle.signal.specs.declared.Kind.the-variants.{NoSignal, TimerStart, TimerStop, Switch, CallingRelease, IncumbentRelease, ReroutingRelease, SetupRequest, ConnectRequest, Rejection}
 use Rattle.signal.specs.declared.Signal.{Signal}
-use Rattle.signal.specs.Choice.{pick}
 use Rattle.signal.specs.Signals.{places}
 use Rattle.signal.specs.Numbers.{answerNumber, freshAfter}
 use Rattle.signal.specs.Counting.{Honest, count, ofKind, named, endedSent, withCode21, inOrder}
@@ -184,11 +183,11 @@ LastByOne =
 
 -- the number that an event gives: the new last number, where it grew
 abbrev pub given : Call → Outcome → List ℕ
-given c o = pick (ltb (c .last) (o .call .last)) (o .call .last ∷ []) []
+given c o = cond (ltb (c .last) (o .call .last)) (o .call .last ∷ []) []
 
 -- the connections whose release an event reports, where it was not refused
 abbrev pub endedReceived : ℕ → List ℕ → List ℕ
-endedReceived answer got = pick (ltb 0 answer) [] got
+endedReceived answer got = cond (ltb 0 answer) [] got
 
 -- the connections that an event ends, by a release received and by releases sent; read off the event, its answer and its signals alone
 abbrev pub ended : Event → Outcome → List ℕ

@@ -1,6 +1,6 @@
 -- A release from the calling side (01, "Release from the calling side"; 6.2.4.2 to 6.2.4.8). Assumes nothing.
 use Prim.Native.Nat.{ℕ}
-use mathlib.Core.Bool.{Bool, true}
+use mathlib.Core.Bool.{Bool, true, cond}
 use mathlib.Core.List.{[], _∷_}
 use Rattle.signal.specs.declared.Answer.the-variants.{NoMeaning}
 use Rattle.signal.specs.declared.Kind.the-variants.{IncumbentRelease, ReroutingRelease}
@@ -8,7 +8,6 @@ use Rattle.signal.specs.declared.ReceivedCause.{ReceivedCause}
 use Rattle.signal.specs.declared.ReceivedCause.the-variants.{NoCause, WithCause}
 use Rattle.signal.specs.declared.SentCause.{SentCause}
 use Rattle.signal.specs.declared.SentCause.the-variants.{Absent, Numbered}
-use Rattle.signal.specs.Choice.{pick}
 use Rattle.signal.specs.Causes.{outside, passed}
 use Rattle.signal.specs.Signals.{timerStop, releaseOf}
 use Rattle.source_states.specs.declared.State.{State}
@@ -18,7 +17,7 @@ use Rattle.source_states.specs.Rows.{refuses, ends}
 
 -- the cause with which normal call clearing releases the incumbent in Soft Triggered: #1 where hard is on and no cause came, else absent (6.2.4.5, 6.2.4.1 case 1, where "available" is read as on; decision 1)
 abbrev pub softTriggeredCause : Bool → ReceivedCause → SentCause
-softTriggeredCause hard NoCause = pick hard (Numbered outside) Absent
+softTriggeredCause hard NoCause = cond hard (Numbered outside) Absent
 softTriggeredCause hard (WithCause k) = Absent
 
 -- the incumbent alone is released

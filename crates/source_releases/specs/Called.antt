@@ -1,7 +1,7 @@
 -- A release from the called side, for a connection, with a cause or none, and crankback (01, "Release from the called side"; 6.2.4.2 to 6.2.4.8).
 -- In every row the connection whose release was received is ended, and is not released again. Assumes nothing.
 use Prim.Native.Nat.{ℕ}
-use mathlib.Core.Bool.{Bool}
+use mathlib.Core.Bool.{Bool, cond}
 use mathlib.Core.List.{[], _∷_}
 use lib.Dec.{eqb}
 use Rattle.signal.specs.declared.Answer.the-variants.{NoMeaning, NotHeld}
@@ -14,7 +14,6 @@ use Rattle.signal.specs.declared.Crankback.{Crankback}
 use Rattle.signal.specs.declared.Crankback.the-variants.{NoCrankback, AlternateFound, NoAlternate}
 use Rattle.signal.specs.declared.Fresh.{Fresh}
 use Rattle.signal.specs.declared.Fresh.the-variants.{Next, Spent}
-use Rattle.signal.specs.Choice.{pick}
 use Rattle.signal.specs.Causes.{notRecovered, forwarded, restated}
 use Rattle.signal.specs.Signals.{timerStart, timerStop, switchTo, setupOn, releaseOf, callRejected}
 use Rattle.source_states.specs.declared.State.{State}
@@ -24,7 +23,7 @@ use Rattle.source_states.specs.Rows.{refuses, moves, gives, ends}
 
 -- Idle, the incumbent: hard and no cause, 6.2.4.2 case 4; else case 3, which reads the cause also with hard off (decision 6)
 abbrev pub idleLost : Bool → ReceivedCause → Row
-idleLost hard NoCause = pick hard (moves HardTriggered (timerStart ∷ [])) (ends (releaseOf CallingRelease 0 Absent ∷ []))
+idleLost hard NoCause = cond hard (moves HardTriggered (timerStart ∷ [])) (ends (releaseOf CallingRelease 0 Absent ∷ []))
 idleLost hard (WithCause k) = ends (releaseOf CallingRelease 0 (forwarded (WithCause k)) ∷ [])
 
 -- Soft Triggered, the incumbent: normal call clearing, whatever came (6.2.4.5 to the letter; decision 1)
@@ -67,7 +66,7 @@ softProceedingHardOn (WithCause k) r = bothReleased r (restated (WithCause k))
 
 -- Soft Proceeding, the incumbent: 01 prints "hard off" first, and no cause is read then (decision 6)
 abbrev pub softProceedingLost : Bool → ReceivedCause → ℕ → Row
-softProceedingLost hard cause r = pick hard (softProceedingHardOn cause r) (bothReleased r Absent)
+softProceedingLost hard cause r = cond hard (softProceedingHardOn cause r) (bothReleased r Absent)
 
 -- the soft reroute is given up, and the incumbent stays (6.2.4.6 case 6)
 abbrev pub backToIdle : ℕ → Row
@@ -91,13 +90,13 @@ softInitiatedHardOn (WithCause k) r = bothReleased r (restated (WithCause k))
 
 -- Soft Initiated, the incumbent: hard off first, as above
 abbrev pub softInitiatedLost : Bool → ReceivedCause → ℕ → Row
-softInitiatedLost hard cause r = pick hard (softInitiatedHardOn cause r) (bothReleased r Absent)
+softInitiatedLost hard cause r = cond hard (softInitiatedHardOn cause r) (bothReleased r Absent)
 
 -- Awaiting, the incumbent: none or #4 switches over; the hard service is not read (01; 6.2.4.8 cases 3 and 4; decision 6)
 abbrev pub awaitingIncumbentLost : ReceivedCause → ℕ → Row
 awaitingIncumbentLost NoCause r = moves (Idle r) (switchTo r ∷ [])
 awaitingIncumbentLost (WithCause k) r =
-    pick (eqb (k .number) 4) (moves (Idle r) (switchTo r ∷ [])) (bothReleased r (restated (WithCause k)))
+    cond (eqb (k .number) 4) (moves (Idle r) (switchTo r ∷ [])) (bothReleased r (restated (WithCause k)))
 
 -- Awaiting, the rerouting connection: the incumbent's own release has no Rerouting cause (6.2.4.8 cases 5 and 6; decision 7)
 abbrev pub awaitingReroutingLost : ReceivedCause → ℕ → Row
@@ -107,11 +106,11 @@ awaitingReroutingLost (WithCause k) i =
 
 -- c is the one held connection x, or is not held (107)
 abbrev pub ifHeld : ℕ → ℕ → Row → Row
-ifHeld c x row = pick (eqb c x) row (refuses NotHeld)
+ifHeld c x row = cond (eqb c x) row (refuses NotHeld)
 
 -- c is the incumbent i, the rerouting connection r, or is not held (107); a number held twice names the incumbent (decision 26)
 abbrev pub byConnection : ℕ → ℕ → ℕ → Row → Row → Row
-byConnection c i r incumbentRow reroutingRow = pick (eqb c i) incumbentRow (pick (eqb c r) reroutingRow (refuses NotHeld))
+byConnection c i r incumbentRow reroutingRow = cond (eqb c i) incumbentRow (cond (eqb c r) reroutingRow (refuses NotHeld))
 
 -- the row, by the hard service, the connection, the cause, the crankback, the next number and the state
 abbrev pub calledRow : Bool → ℕ → ReceivedCause → Crankback → Fresh → State → Row

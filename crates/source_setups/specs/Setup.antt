@@ -1,4 +1,5 @@
 -- A reroute setup from the neighbour, with a switchover code and an incarnation number (01, "Setup", rows 1 to 5; 6.2.7). Assumes nothing.
+use mathlib.Core.Bool.{cond}
 use Prim.Native.Nat.{ℕ}
 use Rattle.signal.specs.declared.Answer.the-variants.{NoMeaning, NumbersSpent}
 use Rattle.signal.specs.declared.Kind.the-variants.{ReroutingRelease}
@@ -10,7 +11,6 @@ use Rattle.signal.specs.declared.Soft.the-variants.{NoSoft, Asymmetric, Symmetr
 use Rattle.signal.specs.declared.Switchover.{Switchover}
 use Rattle.signal.specs.declared.Fresh.{Fresh}
 use Rattle.signal.specs.declared.Fresh.the-variants.{Next, Spent}
-use Rattle.signal.specs.Choice.{pick}
 use Rattle.signal.specs.Causes.{oldNumber, inProgress, unsupported}
 use Rattle.signal.specs.Signals.{none, releaseOf, rejection}
 use Rattle.signal.specs.Numbers.{isClearing, isLate}
@@ -62,12 +62,12 @@ setupIn next number (Awaiting i r) = accepted next number i (releaseOf Rerouting
 -- rows 1 and 2 come before the state is looked at
 abbrev pub setupChecked : Switchover → ℕ → ℕ → Fresh → State → Row
 setupChecked code number remote next s =
-    pick (isClearing code) (pick (isLate number remote) (rejected (leftOld number) oldNumber) (setupIn next number s))
+    cond (isClearing code) (cond (isLate number remote) (rejected (leftOld number) oldNumber) (setupIn next number s))
     (rejected (leftUnsupported number) unsupported)
 
 -- in Null no event has a meaning (decision 26), and the rows are not tried
 abbrev pub setupMet : Switchover → ℕ → ℕ → Fresh → State → Row
-setupMet code number remote next s = pick (isNull s) (refuses NoMeaning) (setupChecked code number remote next s)
+setupMet code number remote next s = cond (isNull s) (refuses NoMeaning) (setupChecked code number remote next s)
 
 -- without symmetric soft a setup has no meaning (01, 106), before any rejection (decision 13)
 abbrev pub setupRow : Soft → Switchover → ℕ → ℕ → Fresh → State → Row

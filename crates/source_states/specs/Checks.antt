@@ -2,7 +2,7 @@
 -- Assumes nothing.
 use Prim.Native.Nat.{ℕ}
 use mathlib.Core.Path.{_≡_}
-use mathlib.Core.Bool.{Bool, true, false, not, _&&_, _||_}
+use mathlib.Core.Bool.{Bool, true, false, not, _&&_, _||_, cond}
 use mathlib.Core.List.{List, [], _∷_}
 use lib.Dec.{eqb}
 use Rattle.signal.specs.declared.Soft.{Soft}
@@ -13,7 +13,6 @@ use Rattle.signal.specs.declared.ReceivedCause.{ReceivedCause}
 use Rattle.signal.specs.declared.ReceivedCause.the-variants.{NoCause, WithCause}
 use Rattle.signal.specs.declared.Switchover.{Switchover}
 use Rattle.signal.specs.declared.Signal.{Signal}
-use Rattle.signal.specs.Choice.{pick}
 use Rattle.signal.specs.Causes.{oldNumber, inProgress, unsupported}
 use Rattle.signal.specs.Signals.{timerStart, timerStop, callRejected, rejection}
 use Rattle.signal.specs.Numbers.{isClearing, isLate}
@@ -121,7 +120,7 @@ numbersSpent remote next s e = asksNumber remote s e && isSpent next
 
 -- the first check that applies gives the answer; 0 where none does
 abbrev pub firstOf : Bool → Bool → Bool → ℕ
-firstOf meaningless notHeld spent = pick meaningless 106 (pick notHeld 107 (pick spent 108 0))
+firstOf meaningless notHeld spent = cond meaningless 106 (cond notHeld 107 (cond spent 108 0))
 
 abbrev pub answerWanted : Soft → ℕ → Fresh → State → Event → ℕ
 answerWanted soft remote next s e = firstOf (meaningless soft s e) (namesNotHeld s e) (numbersSpent remote next s e)
@@ -129,8 +128,8 @@ answerWanted soft remote next s e = firstOf (meaningless soft s e) (namesNotHeld
 -- the rejection of a setup by the first of rows 1 to 3 that applies
 abbrev pub setupRejection : ℕ → State → Switchover → ℕ → List Signal
 setupRejection remote s code number =
-    pick (not (isClearing code)) (rejection unsupported ∷ [])
-    (pick (isLate number remote) (rejection oldNumber ∷ []) (pick (isBusy s) (rejection inProgress ∷ []) []))
+    cond (not (isClearing code)) (rejection unsupported ∷ [])
+    (cond (isLate number remote) (rejection oldNumber ∷ []) (cond (isBusy s) (rejection inProgress ∷ []) []))
 
 -- the same where the setup has a meaning; no other event is rejected
 abbrev pub rejectionWanted : Soft → ℕ → State → Event → List Signal
@@ -139,7 +138,7 @@ rejectionWanted soft remote s PathFound = []
 rejectionWanted soft remote s NoPath = []
 rejectionWanted soft remote s (Connect c agreed) = []
 rejectionWanted soft remote s (Setup code number) =
-    pick (meaningless soft s (Setup code number)) [] (setupRejection remote s code number)
+    cond (meaningless soft s (Setup code number)) [] (setupRejection remote s code number)
 rejectionWanted soft remote s (FromCalling cause) = []
 rejectionWanted soft remote s (FromCalled c cause crankback) = []
 rejectionWanted soft remote s Ready = []
@@ -152,7 +151,7 @@ storedWanted soft remote next s PathFound = []
 storedWanted soft remote next s NoPath = []
 storedWanted soft remote next s (Connect c agreed) = []
 storedWanted soft remote next s (Setup code number) =
-    pick (meaningless soft s (Setup code number) || (not (acceptable remote s code number) || isSpent next)) [] (number ∷ [])
+    cond (meaningless soft s (Setup code number) || (not (acceptable remote s code number) || isSpent next)) [] (number ∷ [])
 storedWanted soft remote next s (FromCalling cause) = []
 storedWanted soft remote next s (FromCalled c cause crankback) = []
 storedWanted soft remote next s Ready = []
@@ -175,7 +174,7 @@ turnsAway hard s Ready = false
 turnsAway hard s Expiry = false
 
 abbrev pub code21Wanted : Bool → State → Event → List Signal
-code21Wanted hard s e = pick (turnsAway hard s e) (callRejected (reroutingOf s) ∷ []) []
+code21Wanted hard s e = cond (turnsAway hard s e) (callRejected (reroutingOf s) ∷ []) []
 
 -- the connections whose release an event reports
 abbrev pub reported : Event → List ℕ
@@ -207,11 +206,11 @@ AllAre x (y ∷ more) = (y ≡ x) × AllAre x more
 
 -- timer start exactly on entering the Hard states from outside them, once (01, "Signals"); told whether the call is in them before and after
 abbrev pub startsWanted : Bool → Bool → List Signal
-startsWanted before after = pick (not before && after) (timerStart ∷ []) []
+startsWanted before after = cond (not before && after) (timerStart ∷ []) []
 
 -- timer stop exactly on leaving them other than by expiry, once
 abbrev pub stopsWanted : Bool → Bool → Bool → List Signal
-stopsWanted expired before after = pick (before && (not after && not expired)) (timerStop ∷ []) []
+stopsWanted expired before after = cond (before && (not after && not expired)) (timerStop ∷ []) []
 
 -- every one of the connections is the state's incumbent
 abbrev pub AllIncumbent : State → List ℕ → Type 0
@@ -232,7 +231,7 @@ isFromCalling Expiry = false
 -- the calling side is released, once and on connection 0, exactly when the call ends otherwise than by its own release; told whether there is a call
 -- before and after
 abbrev pub callingWanted : Bool → Bool → Event → List ℕ
-callingWanted before after e = pick (before && (not after && not (isFromCalling e))) (0 ∷ []) []
+callingWanted before after e = cond (before && (not after && not (isFromCalling e))) (0 ∷ []) []
 
 -- the Rerouting cause that an event brings
 abbrev pub receivedIn : Event → ReceivedCause

@@ -2,7 +2,7 @@
 -- stand in the crates that have the rows (specs/Witness there). A place where 01 departs from the standard is marked, and must then not agree.
 -- Assumes nothing.
 use Prim.Native.Nat.{ℕ}
-use mathlib.Core.Bool.{Bool, true, false, not, _&&_}
+use mathlib.Core.Bool.{Bool, true, false, not, _&&_, cond}
 use mathlib.Core.List.{List, [], _∷_, _++_}
 use lib.Dec.{eqb, ltb}
 use Rattle.signal.specs.declared.CauseCode.{CauseCode}
@@ -15,7 +15,6 @@ use Rattle.signal.specs.declared.ReceivedCause.the-variants.{NoCause, WithCause
 use Rattle.signal.specs.declared.SentCause.{SentCause}
 use Rattle.signal.specs.declared.SentCause.the-variants.{Absent, Numbered, AsReceived}
 use Rattle.signal.specs.declared.Signal.{Signal}
-use Rattle.signal.specs.Choice.{pick}
 use Rattle.signal.specs.Causes.{cause}
 use Rattle.signal.specs.Numbers.{answerNumber}
 use Rattle.signal.specs.Counting.{kindNumber, isCallRejected}
@@ -137,7 +136,7 @@ signalFits got x s =
 -- the places that are not none
 abbrev pub filled : List Signal → List Signal
 filled [] = []
-filled (s ∷ more) = pick (eqb (kindNumber (s .kind)) 0) (filled more) (s ∷ filled more)
+filled (s ∷ more) = cond (eqb (kindNumber (s .kind)) 0) (filled more) (s ∷ filled more)
 
 abbrev pub allFit : ReceivedCause → List Sent → List Signal → Bool
 allFit got [] [] = true
