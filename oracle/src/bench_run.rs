@@ -1,12 +1,12 @@
 //! The bench run of 01 on one call, hard on and symmetric soft: B1 to B13, B15 and B16. B14 opens a
-//! key on record, which is the table's matter.
+//! key on record, which is the table's matter: `table_run` has it, between the same steps.
 
 use crate::call::{Call, Outcome, Services, Soft};
 use crate::vocabulary::{CalledRelease, Crankback, Event, Policy, ReroutingCause, SwitchoverCode};
 use crate::words::SignalWords;
 
 /// Event, answer, record after it, signals; records and signals in the words of the cells.
-type Step = (Event, u8, &'static str, &'static str);
+pub type Step = (Event, u8, &'static str, &'static str);
 
 fn setup(switchover: SwitchoverCode, number: u32) -> Event {
     Event::Setup { switchover, number }
@@ -21,9 +21,12 @@ fn shown(outcome: &Outcome) -> (u8, String, String) {
     (outcome.answer.number(), outcome.call.to_string(), signals)
 }
 
+/// "Hard on, symmetric soft."
+pub const SERVICES: Services = Services { hard: true, soft: Soft::Symmetric };
+
 /// B1.
 fn opened() -> Outcome {
-    Call::open(7, Some(Services { hard: true, soft: Soft::Symmetric }))
+    Call::open(7, Some(SERVICES))
 }
 
 fn run(steps: &[Step]) -> Call {
@@ -38,7 +41,7 @@ fn run(steps: &[Step]) -> Call {
 }
 
 /// B2 to B8: the neighbour reroutes, and its switchover comes with cause #4.
-fn symmetric_part() -> Vec<Step> {
+pub fn symmetric_part() -> Vec<Step> {
     let (clearing, immediate) = (SwitchoverCode::CLEARING, SwitchoverCode::IMMEDIATE);
     vec![
         (setup(clearing, 3), 0, "7 1 2 6 1 2 2 3", "-"),
@@ -52,7 +55,7 @@ fn symmetric_part() -> Vec<Step> {
 }
 
 /// B9 to B13: a late release is refused, and the node itself reroutes softly.
-fn soft_part() -> Vec<Step> {
+pub fn soft_part() -> Vec<Step> {
     let connect = Event::Connect { connection: 4, policy: Policy::Yes };
     vec![
         (called(1, None), 107, "7 1 2 1 3 0 3 5", "-"),
@@ -64,7 +67,7 @@ fn soft_part() -> Vec<Step> {
 }
 
 /// B15 and B16: the incumbent fails under a soft rerouting, and the timer ends the call.
-fn hard_part() -> Vec<Step> {
+pub fn hard_part() -> Vec<Step> {
     let ended = "release calling #2, release rerouting 5 #2";
     vec![
         (Event::Trigger, 0, "7 1 2 4 4 0 4 5", "-"),

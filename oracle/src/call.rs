@@ -22,6 +22,16 @@ impl Soft {
             Soft::Symmetric => 2,
         }
     }
+
+    /// Nothing where no service has that number.
+    pub fn of_number(number: u8) -> Option<Self> {
+        match number {
+            0 => Some(Soft::None),
+            1 => Some(Soft::Asymmetric),
+            2 => Some(Soft::Symmetric),
+            _ => None,
+        }
+    }
 }
 
 /// The services that an opening may name.
@@ -60,6 +70,22 @@ impl State {
             State::SoftRerouteProceeding { .. } => 5,
             State::SoftRerouteInitiated { .. } => 6,
             State::AwaitingSwitchover { .. } => 7,
+        }
+    }
+
+    /// The state with that number, on those of the two connections that it holds; nothing where no
+    /// state has it.
+    pub fn of_number(number: u8, incumbent: u16, rerouting: u16) -> Option<Self> {
+        match number {
+            0 => Some(State::Null),
+            1 => Some(State::ReroutingIdle { incumbent }),
+            2 => Some(State::HardRerouteTriggered),
+            3 => Some(State::HardRerouteProceeding { rerouting }),
+            4 => Some(State::SoftRerouteTriggered { incumbent }),
+            5 => Some(State::SoftRerouteProceeding { incumbent, rerouting }),
+            6 => Some(State::SoftRerouteInitiated { incumbent, rerouting }),
+            7 => Some(State::AwaitingSwitchover { incumbent, rerouting }),
+            _ => None,
         }
     }
 

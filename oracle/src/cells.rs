@@ -98,25 +98,10 @@ pub fn records(number: u8) -> Vec<Call> {
 
 /// The state with that number on 3 and 5, and where it holds both, on 4 twice.
 fn held_states(number: u8) -> Vec<State> {
-    let apart = states(3, 5).into_iter();
-    let doubled = states(4, 4).into_iter();
-    apart
-        .chain(doubled.filter(|state| state.incumbent().is_some() && state.rerouting().is_some()))
-        .filter(|state| state.number() == number)
-        .collect()
-}
-
-fn states(incumbent: u16, rerouting: u16) -> [State; 8] {
-    [
-        State::Null,
-        State::ReroutingIdle { incumbent },
-        State::HardRerouteTriggered,
-        State::HardRerouteProceeding { rerouting },
-        State::SoftRerouteTriggered { incumbent },
-        State::SoftRerouteProceeding { incumbent, rerouting },
-        State::SoftRerouteInitiated { incumbent, rerouting },
-        State::AwaitingSwitchover { incumbent, rerouting },
-    ]
+    let apart = State::of_number(number, 3, 5);
+    let doubled = State::of_number(number, 4, 4)
+        .filter(|state| state.incumbent().is_some() && state.rerouting().is_some());
+    apart.into_iter().chain(doubled).collect()
 }
 
 /// Every event that a record meets, in the printed order.

@@ -8,43 +8,74 @@
 //! | `release_rows` | the rows of the two releases |
 //! | `words` | records, events and signals in words |
 //! | `cells` | every cell of one call, printed |
+//! | `table` | the table of records: fitness, openings, the event on a record |
+//! | `event_record` | an event in the 16 octets of the trace |
+//! | `tables` | cases over a whole table, read and printed |
+//! | `make_tables` | cases over a whole table, made from a seed |
 //!
 //! A call is treated by value: an event takes the old record and hands back the new one. The table
-//! of records, the trace and the cause element are no part of these modules.
+//! finds the record and puts it back. The trace's own lines and the cause element are no part of
+//! these modules.
 
 #![forbid(unsafe_code)]
 
 mod call;
 mod cells;
+mod event_record;
+mod make_tables;
 mod release_rows;
 mod rerouting_rows;
+mod table;
+mod tables;
 mod vocabulary;
 mod words;
 
 #[cfg(test)]
 mod bench_run;
 #[cfg(test)]
+mod case_text;
+#[cfg(test)]
+mod event_values;
+#[cfg(test)]
 mod promises;
+#[cfg(test)]
+mod table_refusals;
+#[cfg(test)]
+mod table_run;
 
 use std::env;
 use std::ffi::OsString;
 use std::io::{self, BufWriter, ErrorKind, Write};
 use std::process::ExitCode;
 
+const USAGE: &str =
+    "usage: oracle cells < letters, oracle tables < cases, oracle make-tables SEED COUNT [bad]";
 const USAGE_STATUS: u8 = 2;
 
 fn main() -> ExitCode {
     let arguments: Vec<OsString> = env::args_os().skip(1).collect();
-    match arguments.as_slice() {
-        [subcommand] if subcommand == "cells" => {
-            let mut out = BufWriter::new(io::stdout().lock());
-            status(cells::print(io::stdin().lock(), &mut out))
-        }
-        _ => {
-            complain("usage: oracle cells < letters");
-            ExitCode::from(USAGE_STATUS)
-        }
+    // An argument that is no text names nothing.
+    let words: Vec<&str> = arguments.iter().map(|word| word.to_str().unwrap_or("")).collect();
+    let mut out = BufWriter::new(io::stdout().lock());
+    match words.as_slice() {
+        ["cells"] => status(cells::print(io::stdin().lock(), &mut out)),
+        ["tables"] => status(tables::print(io::stdin().lock(), &mut out)),
+        ["make-tables", seed, count] => made(seed, count, false, &mut out),
+        ["make-tables", seed, count, "bad"] => made(seed, count, true, &mut out),
+        _ => usage(),
     }
+}
+
+fn made(seed: &str, count: &str, last_is_bad: bool, out: &mut impl Write) -> ExitCode {
+    match (seed.parse(), count.parse()) {
+        (Ok(seed), Ok(count)) => status(make_tables::write(seed, count, last_is_bad, out)),
+        _ => usage(),
+    }
+}
+
+fn usage() -> ExitCode {
+    complain(USAGE);
+    ExitCode::from(USAGE_STATUS)
 }
 
 /// A reader that went away has seen enough; any other failure is told.

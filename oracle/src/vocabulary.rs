@@ -130,10 +130,16 @@ pub fn two(first: Signal, second: Signal) -> Signals {
     [first, second, Signal::NONE, Signal::NONE]
 }
 
-/// What an event on one call is answered (01, "Numbers of refusal").
+/// What an event is answered (01, "Numbers of refusal"): by the table the numbers below 106, by the
+/// call on record the others.
 #[derive(Clone, Copy, Debug, PartialEq, Eq)]
 pub enum Answer {
     Done,
+    TableUnfit,
+    KeyZero,
+    KeyOnRecord,
+    NoEmptyRecord,
+    KeyNotOnRecord,
     WithoutMeaning,
     WrongConnection,
     NumbersSpent,
@@ -143,6 +149,11 @@ impl Answer {
     pub fn number(self) -> u8 {
         match self {
             Answer::Done => 0,
+            Answer::TableUnfit => 101,
+            Answer::KeyZero => 102,
+            Answer::KeyOnRecord => 103,
+            Answer::NoEmptyRecord => 104,
+            Answer::KeyNotOnRecord => 105,
             Answer::WithoutMeaning => 106,
             Answer::WrongConnection => 107,
             Answer::NumbersSpent => 108,

@@ -1,0 +1,102 @@
+//! An event in 16 octets, as the trace reads it (01, "The trace").
+//!
+//! Whether a value is named is seen from the octets alone, before the key and the state are looked
+//! at, and an octet that is not read never makes the event `bad` (decision 23).
+
+use crate::call::{Services, Soft};
+use crate::table::Request;
+use crate::vocabulary::{CalledRelease, Crankback, Event, Policy, ReroutingCause, SwitchoverCode};
+
+pub const EVENT_OCTETS: usize = 16;
+
+/// An event and the key that it names.
+#[derive(Clone, Copy, Debug, PartialEq, Eq)]
+pub struct EventRecord {
+    pub key: u32,
+    pub request: Request,
+}
+
+/// The event, or nothing where it is `bad`.
+pub fn decode(octets: &[u8; EVENT_OCTETS]) -> Option<EventRecord> {
+    let [kind, first, second, third, k0, k1, k2, k3, n0, n1, n2, n3, ..] = *octets;
+    let key = u32::from_be_bytes([k0, k1, k2, k3]);
+    let number = u32::from_be_bytes([n0, n1, n2, n3]);
+    let request = match kind {
+        0 => Request::Opening(services(first, second, third)?),
+        1 => Request::Event(Event::Trigger),
+        2 => Request::Event(Event::PathFound),
+        3 => Request::Event(Event::NoPath),
+        4 => Request::Event(connect(first, number)?),
+        5 => Request::Event(Event::Setup { switchover: SwitchoverCode(first), number }),
+        6 => Request::Event(calling_release(first, second, third)?),
+        7 => Request::Event(called_release(first, second, third, number)?),
+        8 => Request::Event(Event::Ready),
+        9 => Request::Event(Event::TimerExpiry),
+        _ => return None,
+    };
+    Some(EventRecord { key, request })
+}
+
+/// "byte 1 is 0 for default services (bytes 2 and 3 then not read) or 1 for named, byte 2 hard 0 or
+/// 1, byte 3 soft 0 to 2"
+fn services(named: u8, hard: u8, soft: u8) -> Option<Option<Services>> {
+    match flag(named)? {
+        false => Some(None),
+        true => Some(Some(Services { hard: flag(hard)?, soft: Soft::of_number(soft)? })),
+    }
+}
+
+/// "byte 1 is policy, 1 yes, 0 no"; bytes 2 and 3 are not read (decision 23).
+fn connect(policy: u8, number: u32) -> Option<Event> {
+    let policy = match flag(policy)? {
+        false => Policy::No,
+        true => Policy::Yes,
+    };
+    Some(Event::Connect { connection: connection(number)?, policy })
+}
+
+/// Crankback is named of every release, so it is tested here too and then left (decision 23).
+fn calling_release(present: u8, cause: u8, crankback_number: u8) -> Option<Event> {
+    crankback(crankback_number)?;
+    Some(Event::CallingRelease { cause: rerouting_cause(present, cause)? })
+}
+
+fn called_release(present: u8, cause: u8, crankback_number: u8, number: u32) -> Option<Event> {
+    Some(Event::CalledRelease(CalledRelease {
+        connection: connection(number)?,
+        cause: rerouting_cause(present, cause)?,
+        crankback: crankback(crankback_number)?,
+    }))
+}
+
+/// "byte 1 cause present 0 or 1, byte 2 cause"; without a cause byte 2 is not read (decision 23).
+fn rerouting_cause(present: u8, cause: u8) -> Option<Option<ReroutingCause>> {
+    match flag(present)? {
+        false => Some(None),
+        true => Some(Some(ReroutingCause(cause))),
+    }
+}
+
+/// "byte 3 crankback 0 to 2", in the order of 01's words (decision 22).
+fn crankback(number: u8) -> Option<Crankback> {
+    match number {
+        0 => Some(Crankback::None),
+        1 => Some(Crankback::AlternateFound),
+        2 => Some(Crankback::NoneFound),
+        _ => None,
+    }
+}
+
+/// "a connection number above 65,535" is `bad`; 0 is not (decision 23).
+fn connection(number: u32) -> Option<u16> {
+    u16::try_from(number).ok()
+}
+
+/// An octet that names two values, 0 and 1.
+pub fn flag(octet: u8) -> Option<bool> {
+    match octet {
+        0 => Some(false),
+        1 => Some(true),
+        _ => None,
+    }
+}

@@ -1,0 +1,84 @@
+//! Cases for a comparison over whole tables, made from a seed: the same seed makes the same cases,
+//! on every machine.
+//!
+//! | Module | What it holds |
+//! |---|---|
+//! | `draw` | the numbers drawn |
+//! | `records` | tables, fit and damaged |
+//! | `events` | the event that a table meets |
+//! | `bad` | the ways in which a case is bad |
+//!
+//! Most tables are small, some have 64 records, and about one in 500 stands at the edge of 1,024.
+
+mod bad;
+mod draw;
+mod events;
+mod records;
+
+#[cfg(test)]
+mod tests;
+
+use std::io::{Result, Write};
+
+use self::draw::Draw;
+use self::events::event;
+use self::records::{MadeTable, DAMAGES};
+use crate::event_record::EVENT_OCTETS;
+use crate::tables::RECORD_OCTETS;
+
+/// A case in octets.
+struct MadeCase {
+    records: Vec<[u8; RECORD_OCTETS]>,
+    event: [u8; EVENT_OCTETS],
+}
+
+impl MadeCase {
+    /// The form of docs/TABLES.md.
+    fn octets(&self) -> Vec<u8> {
+        let count = u16::try_from(self.records.len()).unwrap_or(u16::MAX);
+        [&count.to_be_bytes(), self.records.concat().as_slice(), &self.event].concat()
+    }
+}
+
+/// Writes so many cases, the last of them bad if that is asked; the others are the same either way.
+pub fn write(seed: u64, count: u64, last_is_bad: bool, out: &mut impl Write) -> Result<()> {
+    let mut draw = Draw::from_seed(seed);
+    for number in 1..=count {
+        let octets = if last_is_bad && number == count {
+            bad::case(seed, &mut draw)
+        } else {
+            case(&mut draw).octets()
+        };
+        out.write_all(&octets)?;
+    }
+    out.flush()
+}
+
+fn case(draw: &mut Draw) -> MadeCase {
+    let count = record_count(draw);
+    let table = table(draw, count);
+    MadeCase { event: event(draw, &table), records: table.octets(draw) }
+}
+
+fn record_count(draw: &mut Draw) -> usize {
+    match draw.below(1_000) {
+        0..=1 => draw.among([1_023, 1_024, 1_024, 1_025, 1_100]),
+        2..=21 => 64,
+        22..=41 => 0,
+        _ => 1 + draw.below(8),
+    }
+}
+
+/// A table of so many records: of the small ones a quarter is damaged, of the others half; of
+/// these, half twice.
+fn table(draw: &mut Draw, count: usize) -> MadeTable {
+    let mut table = MadeTable::fit(draw, count);
+    let rarity = if count < 64 { 4 } else { 2 };
+    if draw.one_in(rarity) {
+        table.damage(draw.among(DAMAGES), draw);
+        if draw.one_in(2) {
+            table.damage(draw.among(DAMAGES), draw);
+        }
+    }
+    table
+}

@@ -1,0 +1,152 @@
+//! The event that a made table meets, in the 16 octets of 01, "The trace". Most events name a key
+//! on record, so that the call itself answers, and mostly a connection that this call holds.
+
+use super::draw::Draw;
+use super::records::MadeTable;
+use crate::call::{Call, State};
+use crate::event_record::EVENT_OCTETS;
+
+const OPENING: u8 = 0;
+const TRIGGER: u8 = 1;
+const PATH_FOUND: u8 = 2;
+const NO_PATH: u8 = 3;
+const CONNECT: u8 = 4;
+const SETUP: u8 = 5;
+const CALLING_RELEASE: u8 = 6;
+const CALLED_RELEASE: u8 = 7;
+const READY: u8 = 8;
+const EXPIRY: u8 = 9;
+
+/// One event in eight is an opening.
+pub fn event(draw: &mut Draw, table: &MadeTable) -> [u8; EVENT_OCTETS] {
+    if draw.one_in(8) {
+        return event_of_kind(draw, table, OPENING);
+    }
+    let key = key(draw, table);
+    let call = call_on_record(table, key);
+    let kind = if draw.one_in(2) { 1 + draw.below(9) as u8 } else { kind_with_meaning(draw, call) };
+    octets(draw, kind, key, call)
+}
+
+pub fn event_of_kind(draw: &mut Draw, table: &MadeTable, kind: u8) -> [u8; EVENT_OCTETS] {
+    let key = if kind == OPENING { opening_key(draw, table) } else { key(draw, table) };
+    octets(draw, kind, key, call_on_record(table, key))
+}
+
+/// What this event does not read is 0 in half of the events and anything in the others.
+fn octets(draw: &mut Draw, kind: u8, key: u32, call: Call) -> [u8; EVENT_OCTETS] {
+    let unread = if draw.one_in(2) { 0 } else { draw.octet() };
+    let unread_number = u32::from_be_bytes([unread; 4]);
+    let ([first, second, third], number) = match kind {
+        OPENING => (services(draw, unread), unread_number),
+        CONNECT => ([draw.among([0, 1]), unread, unread], connection(draw, call)),
+        SETUP => ([switchover_code(draw), unread, unread], incarnation_number(draw, call)),
+        CALLING_RELEASE => (cause_and_crankback(draw, unread), unread_number),
+        CALLED_RELEASE => (cause_and_crankback(draw, unread), connection(draw, call)),
+        _ => ([unread; 3], unread_number),
+    };
+    let [k0, k1, k2, k3] = key.to_be_bytes();
+    let [n0, n1, n2, n3] = number.to_be_bytes();
+    [kind, first, second, third, k0, k1, k2, k3, n0, n1, n2, n3, unread, unread, unread, unread]
+}
+
+/// An event that the state does not refuse with 106, but for its services.
+fn kind_with_meaning(draw: &mut Draw, call: Call) -> u8 {
+    match call.state {
+        // No call under the key, or a damaged one.
+        State::Null => draw.among([TRIGGER, SETUP, CALLING_RELEASE, CALLED_RELEASE]),
+        State::ReroutingIdle { .. } => {
+            draw.among([TRIGGER, SETUP, CALLING_RELEASE, CALLED_RELEASE])
+        }
+        State::HardRerouteTriggered => draw.among([PATH_FOUND, NO_PATH, CALLING_RELEASE, EXPIRY]),
+        State::HardRerouteProceeding { .. } => {
+            draw.among([CONNECT, CALLING_RELEASE, CALLED_RELEASE, CALLED_RELEASE, EXPIRY])
+        }
+        State::SoftRerouteTriggered { .. } => {
+            draw.among([PATH_FOUND, NO_PATH, CALLING_RELEASE, CALLED_RELEASE])
+        }
+        State::SoftRerouteProceeding { .. } => {
+            draw.among([CONNECT, CALLING_RELEASE, CALLED_RELEASE, CALLED_RELEASE])
+        }
+        State::SoftRerouteInitiated { .. } => {
+            draw.among([SETUP, CALLING_RELEASE, CALLED_RELEASE, CALLED_RELEASE, READY])
+        }
+        State::AwaitingSwitchover { .. } => {
+            draw.among([SETUP, CALLING_RELEASE, CALLED_RELEASE, CALLED_RELEASE])
+        }
+    }
+}
+
+/// The first call with the key, or an empty record where there is none.
+fn call_on_record(table: &MadeTable, key: u32) -> Call {
+    let call = table.calls.iter().find(|call| call.key == key);
+    call.copied().unwrap_or(Call::EMPTY)
+}
+
+/// Mostly the key of a call: of the first one from a place on, counted round.
+fn key(draw: &mut Draw, table: &MadeTable) -> u32 {
+    let place = draw.place(table.calls.len());
+    let mut calls = table.calls.iter().cycle().skip(place).take(table.calls.len());
+    match draw.below(16) {
+        0 => 0,
+        1..=2 => any_key(draw, table),
+        _ => match calls.find(|call| call.key != 0) {
+            Some(call) => call.key,
+            None => any_key(draw, table),
+        },
+    }
+}
+
+fn opening_key(draw: &mut Draw, table: &MadeTable) -> u32 {
+    if draw.one_in(16) {
+        0
+    } else {
+        any_key(draw, table)
+    }
+}
+
+/// A key of the table's places, or one that none of them has.
+fn any_key(draw: &mut Draw, table: &MadeTable) -> u32 {
+    table.keys.get(draw.below(table.keys.len())).copied().unwrap_or(0)
+}
+
+/// No services in a third of the openings, else any.
+fn services(draw: &mut Draw, unread: u8) -> [u8; 3] {
+    if draw.one_in(3) {
+        [0, unread, unread]
+    } else {
+        [1, draw.among([0, 1]), draw.among([0, 1, 2])]
+    }
+}
+
+fn switchover_code(draw: &mut Draw) -> u8 {
+    let any = draw.octet();
+    draw.among([1, 1, 1, 1, 1, 1, 0, 2, 255, any])
+}
+
+/// Below, equal to or above the number on record, or any.
+fn incarnation_number(draw: &mut Draw, call: Call) -> u32 {
+    let any = draw.word();
+    let above = call.remote.saturating_add(1);
+    draw.among([call.remote, call.remote.wrapping_sub(1), above, above, above, u32::MAX, 0, any])
+}
+
+/// A connection held, one not held, 0, or one not yet given.
+fn connection(draw: &mut Draw, call: Call) -> u32 {
+    let incumbent = call.state.incumbent().unwrap_or(0);
+    let rerouting = call.state.rerouting().unwrap_or(incumbent);
+    let next = call.last.saturating_add(1);
+    let small = draw.number_to(12);
+    let named = draw.among([
+        incumbent, incumbent, incumbent, rerouting, rerouting, rerouting, call.last, next, small, 0,
+    ]);
+    u32::from(named)
+}
+
+fn cause_and_crankback(draw: &mut Draw, unread: u8) -> [u8; 3] {
+    let any = draw.octet();
+    let crankback = draw.among([0, 1, 2]);
+    let [present, cause] =
+        draw.among([[0, unread], [0, unread], [1, 0], [1, 1], [1, 2], [1, 4], [1, 255], [1, any]]);
+    [present, cause, crankback]
+}

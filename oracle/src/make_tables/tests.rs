@@ -1,0 +1,117 @@
+//! What made cases promise: fit tables are fit, each damage is its own cause of 101, cases are bad
+//! where and only where that is asked; and what the table promises over all of them.
+
+use super::bad::WAY_COUNT;
+use super::draw::Draw;
+use super::events::event;
+use super::records::{Damage, MadeTable, DAMAGES};
+use super::{record_count, table, write};
+use crate::call::Call;
+use crate::event_record::decode;
+use crate::table::{meet, unfit, Request, CAUSES_OF_UNFITNESS};
+use crate::tables;
+use crate::vocabulary::{Answer, SILENT};
+
+const COUNTS: [usize; 12] = [0, 1, 2, 3, 4, 5, 8, 64, 1_023, 1_024, 1_025, 1_100];
+
+/// The place of a damage in the causes of 101.
+fn cause(damage: Damage) -> usize {
+    match damage {
+        Damage::KeyDoubled => 1,
+        Damage::EmptyNotAllEmpty => 2,
+        Damage::CallInNull => 3,
+        Damage::LastNumberZero => 3,
+        Damage::HeldNumberZero => 4,
+        Damage::HeldNumberAboveLast => 4,
+        Damage::HeldNumbersEqual => 5,
+    }
+}
+
+fn causes(table: &MadeTable) -> Vec<usize> {
+    let numbered = CAUSES_OF_UNFITNESS.iter().enumerate();
+    numbered.filter(|(_, cause)| cause(&table.calls)).map(|(number, _)| number).collect()
+}
+
+fn made(seed: u64, count: u64, last_is_bad: bool) -> Vec<u8> {
+    let mut octets = Vec::new();
+    write(seed, count, last_is_bad, &mut octets).expect("a vector takes every byte");
+    octets
+}
+
+fn printed(octets: &[u8]) -> String {
+    let mut out = Vec::new();
+    tables::print(octets, &mut out).expect("a vector takes every byte");
+    String::from_utf8(out).expect("cases are printed in ASCII")
+}
+
+#[test]
+fn tables_without_damage_are_unfit_for_their_count_alone() {
+    let mut draw = Draw::from_seed(1);
+    for count in COUNTS {
+        for _ in 0..if count > 64 { 2 } else { 500 } {
+            let expected = if count > 1_024 { vec![0] } else { vec![] };
+            assert_eq!(causes(&MadeTable::fit(&mut draw, count)), expected);
+        }
+    }
+}
+
+#[test]
+fn each_damage_is_its_own_cause() {
+    let mut draw = Draw::from_seed(2);
+    for damage in DAMAGES {
+        for count in COUNTS.into_iter().filter(|&count| (2..=1_024).contains(&count)) {
+            for _ in 0..if count > 64 { 1 } else { 100 } {
+                let mut table = MadeTable::fit(&mut draw, count);
+                table.damage(damage, &mut draw);
+                assert_eq!(causes(&table), [cause(damage)], "{damage:?} of {count}");
+            }
+        }
+    }
+}
+
+#[test]
+fn seed_decides_alone() {
+    assert_eq!(made(7, 200, false), made(7, 200, false));
+    assert_ne!(made(7, 200, false), made(8, 200, false));
+    assert!(made(8, 200, false).starts_with(&made(8, 100, false)));
+    assert_eq!(made(7, 0, true), []);
+}
+
+#[test]
+fn cases_are_bad_only_where_asked() {
+    assert!(!printed(&made(9, 2_000, false)).contains("bad"));
+    for seed in 0..4 * WAY_COUNT as u64 {
+        let before = printed(&made(seed, 2, false));
+        assert_eq!(printed(&made(seed, 3, true)), before + "bad\n", "seed {seed}");
+        assert_eq!(printed(&made(seed, 1, true)), "bad\n", "seed {seed}");
+    }
+}
+
+fn changed_places(before: &[Call], after: &[Call]) -> Vec<usize> {
+    (0..before.len()).filter(|&place| before[place] != after[place]).collect()
+}
+
+/// A refusal changes nothing and sends nothing. What is done leaves a fit table fit and changes one
+/// record at most: the lowest empty one for an opening, the one with the key for another event.
+#[test]
+fn table_promises_hold_over_made_cases() {
+    let mut draw = Draw::from_seed(3);
+    for _ in 0..20_000 {
+        let count = record_count(&mut draw);
+        let table = table(&mut draw, count);
+        let asked = decode(&event(&mut draw, &table)).expect("a made event is not bad");
+        let mut after = table.calls.clone();
+        let reply = meet(&mut after, asked.key, asked.request);
+        let changed = changed_places(&table.calls, &after);
+        if reply.answer != Answer::Done {
+            assert_eq!((changed, reply.signals), (vec![], SILENT), "{asked:?}");
+            continue;
+        }
+        let opening = matches!(asked.request, Request::Opening(_));
+        let met = if opening { 0 } else { asked.key };
+        let place = table.calls.iter().position(|call| call.key == met);
+        assert!(!unfit(&table.calls) && !unfit(&after), "{asked:?}");
+        assert!(changed.is_empty() && !opening || changed.first().copied() == place, "{asked:?}");
+        assert!(changed.len() <= 1, "{asked:?}");
+    }
+}

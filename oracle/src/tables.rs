@@ -1,0 +1,110 @@
+//! Cases over a whole table, in the form of docs/TABLES.md: each is read, carried out and printed
+//! before the next, and no more than one is kept.
+
+use std::io::{BufRead, ErrorKind, Read, Result, Write};
+
+use crate::call::{Call, Soft, State};
+use crate::event_record::{decode, flag, EventRecord};
+use crate::table;
+use crate::words::SignalWords;
+
+pub const RECORD_OCTETS: usize = 20;
+
+/// The most records of a case: more than a fit table has, so that 101 is seen.
+pub const MOST_RECORDS_OF_A_CASE: u16 = 1_100;
+
+/// A table and the event that it meets.
+struct Case {
+    table: Vec<Call>,
+    event: EventRecord,
+}
+
+/// What stands next in the input.
+enum Next {
+    Case(Case),
+    Bad,
+    End,
+}
+
+/// Prints the answer, the signals and the table after each case; a `bad` one ends the run.
+pub fn print(mut cases: impl BufRead, out: &mut impl Write) -> Result<()> {
+    let mut counted: u64 = 0;
+    loop {
+        match next(&mut cases)? {
+            Next::Case(case) => {
+                counted += 1;
+                print_case(counted, case, out)?;
+            }
+            Next::Bad => {
+                writeln!(out, "bad")?;
+                return out.flush();
+            }
+            Next::End => return out.flush(),
+        }
+    }
+}
+
+fn print_case(number: u64, case: Case, out: &mut impl Write) -> Result<()> {
+    let Case { mut table, event } = case;
+    let reply = table::meet(&mut table, event.key, event.request);
+    let (answer, signals) = (reply.answer.number(), SignalWords(&reply.signals));
+    writeln!(out, "case {number} answer {answer} n {} {signals}", table.len())?;
+    for call in &table {
+        writeln!(out, "{call}")?;
+    }
+    Ok(())
+}
+
+/// Input that ends before a case's first octet ends the run; anywhere later the case is cut short.
+fn next(input: &mut impl Read) -> Result<Next> {
+    let Some([first]) = octets(input)? else { return Ok(Next::End) };
+    match case_after(first, input)? {
+        Some(case) => Ok(Next::Case(case)),
+        None => Ok(Next::Bad),
+    }
+}
+
+/// The case whose count begins with that octet, or nothing where it is `bad`.
+fn case_after(first: u8, input: &mut impl Read) -> Result<Option<Case>> {
+    let Some([second]) = octets(input)? else { return Ok(None) };
+    let count = u16::from_be_bytes([first, second]);
+    if count > MOST_RECORDS_OF_A_CASE {
+        return Ok(None);
+    }
+    let mut table = Vec::with_capacity(usize::from(count));
+    for _ in 0..count {
+        match octets(input)?.and_then(record) {
+            Some(call) => table.push(call),
+            None => return Ok(None),
+        }
+    }
+    let event = octets(input)?.and_then(|octets| decode(&octets));
+    Ok(event.map(|event| Case { table, event }))
+}
+
+/// So many octets, or nothing where the input ends before the last of them.
+fn octets<const COUNT: usize>(input: &mut impl Read) -> Result<Option<[u8; COUNT]>> {
+    let mut octets = [0; COUNT];
+    match input.read_exact(&mut octets) {
+        Ok(()) => Ok(Some(octets)),
+        Err(failure) if failure.kind() == ErrorKind::UnexpectedEof => Ok(None),
+        Err(failure) => Err(failure),
+    }
+}
+
+/// One record, or nothing where a value is not named. A connection that the state does not hold is
+/// not read, nor are the octets 7, 18 and 19.
+fn record(octets: [u8; RECORD_OCTETS]) -> Option<Call> {
+    let [k0, k1, k2, k3, hard, soft, state, _, i0, i1, r0, r1, l0, l1, n0, n1, n2, n3, _, _] =
+        octets;
+    let incumbent = u16::from_be_bytes([i0, i1]);
+    let rerouting = u16::from_be_bytes([r0, r1]);
+    Some(Call {
+        key: u32::from_be_bytes([k0, k1, k2, k3]),
+        hard: flag(hard)?,
+        soft: Soft::of_number(soft)?,
+        state: State::of_number(state, incumbent, rerouting)?,
+        last: u16::from_be_bytes([l0, l1]),
+        remote: u32::from_be_bytes([n0, n1, n2, n3]),
+    })
+}
