@@ -1,0 +1,13 @@
+pub mod Sizes
+pub mod Record
+pub mod Search
+pub mod Put
+pub mod Find
+pub mod Lend
+pub mod Handle
+pub mod HandleArray
+pub mod Fold
+pub mod Survey
+pub mod Keys
+pub mod Numbers
+pub mod Event

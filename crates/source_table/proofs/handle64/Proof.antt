@@ -1,0 +1,42 @@
+-- `source_table::handle64` meets its contract: the walk of lent, at this table's record. Assumes nothing.
+use mathlib.Core.Path.{refl, ap}
+use lib.Dec.{lit<}
+use mir.Val.{Val, vstruct, vcons, vnil}
+use contract.Running.{givenOf, tables, tablesOf}
+use denote.Struct.Laws as LL
+use denote.Triple.Spec.{tripleOf}
+use denote.Triple.Table.{entered, cited}
+use Rattle.lent.proofs.Record.{Plain, struct}
+use Rattle.lent.proofs.HandleArray as walked
+use Rattle.source_table.specs.Table.{ranOf, tableOf}
+use Rattle.source_table.proofs.Shape.{row, act, done}
+use Rattle.source_table.proofs.Sixty as Z
+use Rattle.source_table.proofs.Sixty.Laws as Z′
+use Rattle.source_table.proofs.handle.Symbol as handle
+use Rattle.source_table.proofs.handle.Met as handle-thm
+use Rattle.source_table.proofs.handle64.Key.{name as #source_table·handle64}
+use Rattle.source_table.proofs.handle64 as handle64
+use Rattle.source_table.proofs.handle64.Statement as stated
+use Rattle.source_table.proofs.handle64.Code as code
+
+abbrev whole : Plain
+whole = struct (record { type = Z.the-type; laws = Z′.the-laws; copy = Z′.the-copy; plain = Z′.the-plain })
+
+abbrev both : walked.Both row 64 done whole
+both = record {
+  both = λ zs r. record { table = zs; done = r };
+  table = λ z. z .table;
+  done = λ z. z .done;
+  table-both = λ zs r. refl;
+  done-both = λ zs r. refl;
+  value = λ zs r. ap (λ (v : Val). vstruct (vcons v (vcons (done .val r) vnil))) (walked.av-field row zs);
+  is = λ zs r g gr. LL.owes Z.the-type Z′.the-laws (record { table = zs; done = r }) (walked.field-is row 64 zs g, (gr, tt));
+}
+
+pub handle64-spec : {M : Type 1} → stated.statement M
+unfolding code.routine tablesOf
+handle64-spec 𝓤 H 𝓜 𝓖 𝓡 =
+    entered 𝓤 H (tripleOf 𝓤 H (𝓖 .A) handle64.signature (handle64.spec 𝓤 H (𝓖 .A) (𝓜 .mem) (𝓡 .run)))
+    (tables 𝓤 H 𝓜 𝓡 code.env .C) (tables 𝓤 H 𝓜 𝓡 code.env .Λ) #source_table·handle64 code.function (code.unfolded 𝓤 H 𝓜 𝓡)
+    (walked.meets row act done whole 64 tt (lit< tt, lit< tt) both (λ ys k e. ranOf ys k e .done) tableOf handle.name 𝓤 H (𝓖 .A) (givenOf 𝓤 H 𝓜 𝓖) (tablesOf 𝓤 H 𝓜 (tables 𝓤 H 𝓜 𝓡 code.env))
+    (cited 𝓤 H _ 𝓜 𝓡 code.env handle.name handle.routine code.calls-source-table·handle (handle-thm.met 𝓤 H 𝓜 𝓖 𝓡)))

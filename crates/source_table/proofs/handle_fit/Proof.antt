@@ -1,0 +1,27 @@
+-- `source_table::handle_fit` meets its contract: the walk of lent, at this table's record. Assumes nothing.
+use contract.Running.{givenOf, tables, tablesOf}
+use denote.Triple.Spec.{tripleOf}
+use denote.Triple.Table.{entered, cited}
+use Rattle.lent.proofs.Handle as walked
+use Rattle.source_table.specs.Table.{soughtIn, decideFitOf}
+use Rattle.source_table.proofs.Shape.{row, sought, act, done, ran, ran-at, ran-call, ran-done}
+use Rattle.source_table.proofs.look.Symbol as look
+use Rattle.source_table.proofs.look.Met as look-thm
+use Rattle.source_table.proofs.decide_fit.Symbol as decide-fit
+use Rattle.source_table.proofs.decide_fit.Met as decide-fit-thm
+use Rattle.source_table.proofs.put.Symbol as put
+use Rattle.source_table.proofs.put.Met as put-thm
+use Rattle.source_table.proofs.handle_fit.Key.{name as #source_table·handle_fit}
+use Rattle.source_table.proofs.handle_fit as handle-fit′
+use Rattle.source_table.proofs.handle_fit.Statement as stated
+use Rattle.source_table.proofs.handle_fit.Code as code
+
+pub handle-fit-spec : {M : Type 1} → stated.statement M
+unfolding code.routine tablesOf
+handle-fit-spec 𝓤 H 𝓜 𝓖 𝓡 =
+    entered 𝓤 H (tripleOf 𝓤 H (𝓖 .A) handle-fit′.signature (handle-fit′.spec 𝓤 H (𝓖 .A) (𝓜 .mem) (𝓡 .run)))
+    (tables 𝓤 H 𝓜 𝓡 code.env .C) (tables 𝓤 H 𝓜 𝓡 code.env .Λ) #source_table·handle_fit code.function (code.unfolded 𝓤 H 𝓜 𝓡)
+    (walked.meets row sought act done ran ran-at ran-call ran-done soughtIn decideFitOf (record { scan = look.name; decide = decide-fit.name; put = put.name }) 𝓤 H (𝓖 .A) (givenOf 𝓤 H 𝓜 𝓖) (tablesOf 𝓤 H 𝓜 (tables 𝓤 H 𝓜 𝓡 code.env))
+    (cited 𝓤 H _ 𝓜 𝓡 code.env look.name look.routine code.calls-source-table·look (look-thm.met 𝓤 H 𝓜 𝓖 𝓡))
+    (cited 𝓤 H _ 𝓜 𝓡 code.env decide-fit.name decide-fit.routine code.calls-source-table·decide-fit (decide-fit-thm.met 𝓤 H 𝓜 𝓖 𝓡))
+    (cited 𝓤 H _ 𝓜 𝓡 code.env put.name put.routine code.calls-source-table·put (put-thm.met 𝓤 H 𝓜 𝓖 𝓡)))

@@ -1,0 +1,344 @@
+// The table of source calls, lent as a row of records: openings and events by key, with the refusals 101 to 105 before the record's own.
+//
+// Few thin functions touch the lent row (survey, put, handle, look, handle_fit) and one the row by value (handle64): each is an instance of a walk of the crate
+// lent. All that they decide, covered code decides on plain values.
+ghost use mathlib.Core.Path.{_≡_};
+ghost use lib.ListN.{set};
+ghost use mathlib.Core.Bool.{_&&_};
+ghost use Rattle.source_states.specs.declared.State.the-variants.{SoftProceeding};
+ghost use Rattle.source_table.specs.Fit.{isEmptied, isWithin, fitHeld, fitRecord};
+ghost use Rattle.source_table.specs.Table.{laterOf, soughtAtStart, soughtOf, soughtIn, startOf, stepOf, seenOf, keysOf, refusedAt, placedAt, openingOf, meetingOf, decideFitOf, decideOf, ranOf, tableOf, ranFitOf, tableFitOf};
+use signal::Answer;
+use signal::Signal;
+use signal::Wanted;
+use source::Call;
+use source::Event;
+use source::Outcome;
+use source_states::State;
+
+// What is done with a key: a call is opened, or an event meets it.
+pub enum Act {
+    Opens(Wanted),
+    Meets(Event),
+}
+
+// A record and its place.
+pub enum Found {
+    At(usize, Call),
+    Nothing,
+}
+
+// The record with the key, and the lowest empty record.
+pub struct Sought {
+    pub found: Found,
+    pub free: Found,
+}
+
+// What one reading of the row tells: that every record is fit by itself, and what is sought.
+pub struct Seen {
+    pub sound: bool,
+    pub sought: Sought,
+}
+
+pub struct Done {
+    pub answer: Answer,
+    pub signals: [Signal; 4],
+}
+
+// A table of 64 by value, with what was done.
+pub struct Sixty {
+    pub table: [Call; 64],
+    pub done: Done,
+}
+
+// What is decided: the answer, and the record to put at a place. A refusal's place is past the end.
+pub struct Ran {
+    pub done: Done,
+    pub at: usize,
+    pub call: Call,
+}
+
+fn emptied(call: Call) -> bool
+    ensures { λ r. ⌜ r ≡ isEmptied call ⌝ }
+{
+    let soft = call.soft;
+    let state = call.state;
+    if call.hard {
+        return false;
+    }
+    if soft.number() != 0 {
+        return false;
+    }
+    if state.number() != 0 {
+        return false;
+    }
+    if call.last != 0 {
+        return false;
+    }
+    if call.remote != 0 {
+        return false;
+    }
+    true
+}
+
+fn within(last: u16, number: u16) -> bool
+    ensures { λ r. ⌜ r ≡ isWithin last number ⌝ }
+{
+    if number == 0 {
+        return false;
+    }
+    number <= last
+}
+
+fn both_within(last: u16, incumbent: u16, rerouting: u16) -> bool
+    ensures { λ r. ⌜ r ≡ fitHeld last (SoftProceeding incumbent rerouting) ⌝ }
+{
+    if incumbent == rerouting {
+        return false;
+    }
+    if within(last, incumbent) {
+        return within(last, rerouting);
+    }
+    false
+}
+
+fn held_fit(last: u16, state: State) -> bool
+    ensures { λ r. ⌜ r ≡ fitHeld last state ⌝ }
+{
+    match state {
+        State::Null => false,
+        State::Idle(i) => within(last, i),
+        State::HardTriggered => true,
+        State::HardProceeding(r) => within(last, r),
+        State::SoftTriggered(i) => within(last, i),
+        State::SoftProceeding(i, r) => both_within(last, i, r),
+        State::SoftInitiated(i, r) => both_within(last, i, r),
+        State::Awaiting(i, r) => both_within(last, i, r),
+    }
+}
+
+fn record_fit(call: Call) -> bool
+    ensures { λ r. ⌜ r ≡ fitRecord call ⌝ }
+{
+    if call.key == 0 {
+        return emptied(call);
+    }
+    if call.last == 0 {
+        return false;
+    }
+    let state = call.state;
+    held_fit(call.last, state)
+}
+
+// What is found stays; else the record at i is, where it has the key.
+fn later(found: Found, key: u32, i: usize, c: Call) -> Found
+    ensures { λ r. ⌜ r ≡ laterOf found key i c ⌝ }
+{
+    match found {
+        Found::At(j, d) => Found::At(j, d),
+        Found::Nothing => {
+            if c.key == key {
+                return Found::At(i, c);
+            }
+            Found::Nothing
+        }
+    }
+}
+
+fn seek_start(key: u32) -> Sought
+    ensures { λ r. ⌜ r ≡ soughtAtStart key ⌝ }
+{
+    Sought {
+        found: Found::Nothing,
+        free: Found::Nothing,
+    }
+}
+
+fn seek(s: Sought, key: u32, i: usize, c: Call) -> Sought
+    ensures { λ r. ⌜ r ≡ soughtOf s key i c ⌝ }
+{
+    let a = s.found;
+    let found = later(a, key, i, c);
+    let b = s.free;
+    let free = later(b, 0, i, c);
+    Sought { found, free }
+}
+
+fn start(key: u32) -> Seen
+    ensures { λ r. ⌜ r ≡ startOf key ⌝ }
+{
+    let sought = seek_start(key);
+    Seen {
+        sound: true,
+        sought,
+    }
+}
+
+fn sound_still(sound: bool, c: Call) -> bool
+    ensures { λ r. ⌜ r ≡ (sound && fitRecord c) ⌝ }
+{
+    if sound {
+        return record_fit(c);
+    }
+    false
+}
+
+fn step(s: Seen, key: u32, i: usize, c: Call) -> Seen
+    ensures { λ r. ⌜ r ≡ stepOf s key i c ⌝ }
+{
+    let sound = sound_still(s.sound, c);
+    let before = s.sought;
+    let sought = seek(before, key, i, c);
+    Seen { sound, sought }
+}
+
+// One reading: each record once, its key into the lent array.
+fn survey(t: &[Call], key: u32, keys: &mut [u32]) -> Seen
+    ensures { λ r. ⌜ (r ≡ seenOf (now (t .entry)) key) × (now (keys .exit) ≡ keysOf (now (keys .entry)) (now (t .entry))) ⌝ }
+{
+    let mut s = start(key);
+    let mut i = 0;
+    while i < t.len() {
+        let c = t[i];
+        if i < keys.len() {
+            keys[i] = c.key;
+        }
+        s = step(s, key, i, c);
+        i += 1;
+    }
+    s
+}
+
+// One reading without the check.
+fn look(t: &[Call], key: u32) -> Sought
+    ensures { λ r. ⌜ r ≡ soughtIn (now (t .entry)) key ⌝ }
+{
+    let mut s = seek_start(key);
+    let mut i = 0;
+    while i < t.len() {
+        let c = t[i];
+        s = seek(s, key, i, c);
+        i += 1;
+    }
+    s
+}
+
+// The record is put back; past the end nothing is.
+fn put(t: &mut [Call], i: usize, c: Call)
+    ensures { λ _. ⌜ now (t .exit) ≡ set (now (t .entry)) i c ⌝ }
+{
+    if i < t.len() {
+        t[i] = c;
+    }
+}
+
+fn refused(n: usize, answer: Answer) -> Ran
+    ensures { λ r. ⌜ r ≡ refusedAt n answer ⌝ }
+{
+    let done = Done {
+        answer: answer,
+        signals: [Signal::NONE, Signal::NONE, Signal::NONE, Signal::NONE],
+    };
+    Ran {
+        done,
+        at: n,
+        call: Call::EMPTY,
+    }
+}
+
+fn placed(i: usize, o: Outcome) -> Ran
+    ensures { λ r. ⌜ r ≡ placedAt i o ⌝ }
+{
+    let answer = o.answer;
+    let signals = o.signals;
+    let call = o.call;
+    let done = Done { answer, signals };
+    Ran { done, at: i, call }
+}
+
+// 103, then 104; else the lowest empty record is taken.
+fn opening(n: usize, s: Sought, key: u32, wanted: Wanted) -> Ran
+    ensures { λ r. ⌜ r ≡ openingOf n s key wanted ⌝ }
+{
+    let found = s.found;
+    let free = s.free;
+    match found {
+        Found::At(_, _) => refused(n, Answer::KeyOnRecord),
+        Found::Nothing => {
+            match free {
+                Found::At(i, _) => placed(i, Call::opened(key, wanted)),
+                Found::Nothing => refused(n, Answer::NoEmptyRecord),
+            }
+        }
+    }
+}
+
+// 105; else the record's own row.
+fn meeting(n: usize, s: Sought, event: Event) -> Ran
+    ensures { λ r. ⌜ r ≡ meetingOf n s event ⌝ }
+{
+    let found = s.found;
+    match found {
+        Found::At(i, c) => placed(i, c.handle(event)),
+        Found::Nothing => refused(n, Answer::KeyNotOnRecord),
+    }
+}
+
+// 102 comes before the key is looked for.
+fn decide_fit(n: usize, s: Sought, key: u32, act: Act) -> Ran
+    ensures { λ r. ⌜ r ≡ decideFitOf n s key act ⌝ }
+{
+    if key == 0 {
+        return refused(n, Answer::KeyZero);
+    }
+    match act {
+        Act::Opens(wanted) => opening(n, s, key, wanted),
+        Act::Meets(event) => meeting(n, s, event),
+    }
+}
+
+// 101 comes first of all.
+fn decide(n: usize, s: Seen, ok: bool, key: u32, act: Act) -> Ran
+    ensures { λ r. ⌜ r ≡ decideOf n s ok key act ⌝ }
+{
+    if ok {
+        if s.sound {
+            let sought = s.sought;
+            return decide_fit(n, sought, key, act);
+        }
+        return refused(n, Answer::TableUnfit);
+    }
+    refused(n, Answer::TableUnfit)
+}
+
+// One opening or event by key, over any row of records.
+pub fn handle(t: &mut [Call], key: u32, act: Act) -> Done
+    ensures { λ r. ⌜ (r ≡ ranOf (now (t .entry)) key act .done) × (now (t .exit) ≡ tableOf (now (t .entry)) key act) ⌝ }
+{
+    let mut keys = [0u32; 1024];
+    let s = survey(t, key, &mut keys);
+    let n = t.len();
+    let ok = distinct::unique(&keys, n);
+    let d = decide(n, s, ok, key, act);
+    put(t, d.at, d.call);
+    d.done
+}
+
+// The same without the check of the table, for a row that is known to be fit.
+pub fn handle_fit(t: &mut [Call], key: u32, act: Act) -> Done
+    ensures { λ r. ⌜ (r ≡ ranFitOf (now (t .entry)) key act .done) × (now (t .exit) ≡ tableFitOf (now (t .entry)) key act) ⌝ }
+{
+    let s = look(t, key);
+    let d = decide_fit(t.len(), s, key, act);
+    put(t, d.at, d.call);
+    d.done
+}
+
+// The checked entry over a table of 64 by value, for callers that need no walk of their own.
+pub fn handle64(table: [Call; 64], key: u32, act: Act) -> Sixty
+    ensures { λ r. ⌜ (r .done ≡ ranOf table key act .done) × (r .table ≡ tableOf table key act) ⌝ }
+{
+    let mut t = table;
+    let done = handle(&mut t, key, act);
+    Sixty { table: t, done }
+}
