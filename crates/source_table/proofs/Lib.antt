@@ -1,3 +1,6 @@
 pub mod Told
 pub mod Shape
 pub mod Keys
+pub mod Search
+pub mod Claims
+pub mod Bench

@@ -1,2 +1,4 @@
 pub mod Fit
 pub mod Table
+pub mod Claims
+pub mod Bench

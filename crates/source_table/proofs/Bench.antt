@@ -1,0 +1,17 @@
+-- The bench run of 01, B1 to B14, by computation, at rows of 1, 64 and 1,024 records. Assumes nothing.
+use mathlib.Core.Path.{refl}
+use Rattle.lent.specs.Search.{readFrom}
+use Rattle.distinct.specs.Distinct.{has, distinctOf}
+use Rattle.source_table.specs.Bench.{benchRun, after, benchShown, BenchRun}
+
+pub bench-1 : BenchRun 0
+unfolding benchRun after benchShown readFrom has distinctOf
+bench-1 = refl
+
+pub bench-64 : BenchRun 63
+unfolding benchRun after benchShown readFrom has distinctOf
+bench-64 = refl
+
+pub bench-1024 : BenchRun 1023
+unfolding benchRun after benchShown readFrom has distinctOf
+bench-1024 = refl

@@ -1,0 +1,95 @@
+-- The claims on the table (specs/Claims), proved. Assumes nothing.
+use Prim.Native.Nat.{ℕ, _+_, _≤_, _<_}
+use native.Mathlib.Omega.{arith}
+use mathlib.Core.Path.{_≡_, refl, sym, ap, _∙_}
+use mathlib.Core.Bool.{Bool, true, false, _&&_, cond}
+use mathlib.Core.List.{List, []}
+use lib.Dec.{eqb}
+use lib.ListN.{length, getD, set, length-set}
+use lib.Seq.{set-out, set-getD, getD-set-other}
+use Rattle.signal.specs.declared.Answer.{Answer}
+use Rattle.signal.specs.declared.Answer.the-variants.{TableUnfit, KeyZero, KeyOnRecord, NoEmptyRecord, KeyNotOnRecord}
+use Rattle.signal.specs.declared.Wanted.{Wanted}
+use Rattle.signal.specs.Signals.{places}
+use Rattle.signal.specs.Numbers.{answerNumber}
+use Rattle.source_states.specs.declared.Event.{Event}
+use Rattle.source.specs.declared.Call.{Call}
+use Rattle.source.specs.Record.{emptied}
+use Rattle.source.specs.Events.{eventOf}
+use Rattle.source.proofs.Claims.{refusals-change-nothing as record-refusals}
+use Rattle.source_table.specs.declared.Act.{Act}
+use Rattle.source_table.specs.declared.Act.the-variants.{Opens, Meets}
+use Rattle.source_table.specs.declared.Found.{Found}
+use Rattle.source_table.specs.declared.Found.the-variants.{At, Nothing}
+use Rattle.source_table.specs.declared.Sought.{Sought}
+use Rattle.source_table.specs.declared.Ran.{Ran}
+use Rattle.source_table.specs.Fit.{fitTable, fitKeys, everyFit}
+use Rattle.source_table.specs.Table.{soughtIn, openingAt, openingBy, meetingAt, actOf, decideFitOf, decideOf, refusedAt, ranOf, tableOf, ranFitOf}
+use Rattle.source_table.specs.Claims as claim
+use Rattle.source_table.proofs.Search.{first, sought-is, seen-is, FoundAt, found-at}
+
+-- the checked decision, by whether the table is fit
+ran-is : (ys : List Call) (key : ℕ) (act : Act) → ranOf ys key act ≡ cond (fitTable ys) (ranFitOf ys key act) (refusedAt (length ys) TableUnfit)
+ran-is ys key act = ap (λ s. decideOf (length ys) s (fitKeys ys) key act) (seen-is ys key)
+
+-- what is decided leaves the row and sends nothing
+abbrev Untouched : List Call → Ran → Type 0
+Untouched ys d = (set ys (d .at) (d .call) ≡ ys) × (d .done .signals ≡ places [])
+
+-- a decision whose refusal leaves the row
+abbrev Quiet : List Call → Ran → Type 0
+Quiet ys d = (answerNumber (d .done .answer) ≡ 0 → ⊥) → Untouched ys d
+
+past-the-end : (ys : List Call) (a : Answer) → Untouched ys (refusedAt (length ys) a)
+past-the-end ys a = (set-out ys (length ys) emptied (omega arith), refl)
+
+-- an opening is never refused by its record
+opening-quiet : (ys : List Call) (free : Found) (key : ℕ) (wanted : Wanted) → Quiet ys (openingAt (length ys) free key wanted)
+opening-quiet ys (At i c) key wanted h = absurd (h refl)
+opening-quiet ys Nothing key wanted h = past-the-end ys NoEmptyRecord
+
+opening-by : (ys : List Call) (found free : Found) (key : ℕ) (wanted : Wanted) → Quiet ys (openingBy (length ys) found free key wanted)
+opening-by ys (At i c) free key wanted h = past-the-end ys KeyOnRecord
+opening-by ys Nothing free key wanted h = opening-quiet ys free key wanted h
+
+-- an event that a record refuses leaves that record, which stands where it was found
+meeting-quiet : (ys : List Call) (key : ℕ) (found : Found) → first key 0 ys ≡ found → (e : Event) → Quiet ys (meetingAt (length ys) found e)
+meeting-quiet ys key (At i c) p e h =
+    let f : FoundAt key 0 i c ys = found-at key 0 i c ys p in
+    let kept = record-refusals c e (eventOf c e) refl h in
+    let at : i ≡ f .place = omega (arith, f .at) in
+    (ap (set ys i) (kept .0)
+    ∙ (ap (λ (n : ℕ). set ys n c) at ∙ (ap (set ys (f .place)) (sym (f .there)) ∙ set-getD ys (f .place) emptied)),
+    kept .1)
+meeting-quiet ys key Nothing p e h = past-the-end ys KeyNotOnRecord
+
+act-quiet : (ys : List Call) (key : ℕ) (act : Act) → Quiet ys (actOf (length ys) (record { found = first key 0 ys; free = first 0 0 ys }) key act)
+act-quiet ys key (Opens wanted) = opening-by ys (first key 0 ys) (first 0 0 ys) key wanted
+act-quiet ys key (Meets e) = meeting-quiet ys key (first key 0 ys) refl e
+
+either : (P : Ran → Type 0) (b : Bool) (a d : Ran) → P a → P d → P (cond b a d)
+either P true a d p q = p
+either P false a d p q = q
+
+fit-quiet : (ys : List Call) (key : ℕ) (act : Act) → Quiet ys (ranFitOf ys key act)
+fit-quiet ys key act =
+    rw (sought-is ys key)
+    (either (Quiet ys) (eqb key 0) _ _ (λ h. past-the-end ys KeyZero) (act-quiet ys key act))
+
+pub refusals-change-nothing : claim.RefusalsChangeNothing
+refusals-change-nothing ys key act =
+    rw (ran-is ys key act) (either (Quiet ys) (fitTable ys) _ _ (fit-quiet ys key act) (λ h. past-the-end ys TableUnfit))
+
+pub unfit-is-refused : claim.UnfitIsRefused
+unfit-is-refused ys key act unfit = rw (ran-is ys key act, unfit)
+
+same-ran : (ys : List Call) (key : ℕ) (act : Act) → fitTable ys ≡ true → ranFitOf ys key act ≡ ranOf ys key act
+same-ran ys key act fit = sym (ran-is ys key act ∙ ap (λ b. cond b (ranFitOf ys key act) (refusedAt (length ys) TableUnfit)) fit)
+
+pub fit-needs-no-check : claim.FitNeedsNoCheck
+fit-needs-no-check ys key act fit = (same-ran ys key act fit, ap (λ d. set ys (d .at) (d .call)) (same-ran ys key act fit))
+
+pub others-stay : claim.OthersStay
+others-stay ys key act =
+    (length-set ys (ranOf ys key act .at) (ranOf ys key act .call),
+    λ i other. getD-set-other ys (ranOf ys key act .at) i (ranOf ys key act .call) emptied other)

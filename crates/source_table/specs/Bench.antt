@@ -1,0 +1,118 @@
+-- The bench run of 01, B1 to B14, in a single statement over the list: events, answers, signals, states and record numbers as the document prints them, for calls by
+-- key 7 with hard on and symmetric soft, in a row of any length. Assumes nothing.
+use Prim.Native.Nat.{ℕ, zero, suc}
+use mathlib.Core.Path.{_≡_}
+use mathlib.Core.Bool.{true}
+use mathlib.Core.List.{List, [], _∷_}
+use lib.ListN.{replicate}
+use Rattle.signal.specs.declared.Crankback.the-variants.{NoCrankback}
+use Rattle.signal.specs.declared.Kind.the-variants.{IncumbentRelease, ReroutingRelease}
+use Rattle.signal.specs.declared.ReceivedCause.the-variants.{NoCause, WithCause}
+use Rattle.signal.specs.declared.SentCause.the-variants.{Absent, Numbered}
+use Rattle.signal.specs.declared.Services.{Services}
+use Rattle.signal.specs.declared.Signal.{Signal}
+use Rattle.signal.specs.declared.Soft.the-variants.{Symmetric}
+use Rattle.signal.specs.declared.Switchover.{Switchover}
+use Rattle.signal.specs.declared.Wanted.the-variants.{Named}
+use Rattle.signal.specs.Causes.{complete, oldNumber, inProgress, unsupported}
+use Rattle.signal.specs.Signals.{switchTo, setupOn, connectOn, releaseOf, rejection, places}
+use Rattle.signal.specs.Numbers.{answerNumber}
+use Rattle.source_states.specs.declared.State.{State}
+use Rattle.source_states.specs.declared.State.the-variants.{Idle, SoftTriggered, SoftProceeding, SoftInitiated, Awaiting}
+use Rattle.source_states.specs.declared.Event.the-variants.{Trigger, PathFound, Connect, Setup, FromCalled, Ready}
+use Rattle.source.specs.declared.Call.{Call}
+use Rattle.source.specs.Record.{emptied}
+use Rattle.source_table.specs.declared.Act.{Act}
+use Rattle.source_table.specs.declared.Act.the-variants.{Opens, Meets}
+use Rattle.source_table.specs.Table.{ranOf, tableOf}
+
+-- what a step of a run shows: the answer's number, the signals, and the whole row
+pub record Step : Type 0 where
+  pub answer : ℕ
+  pub signals : List Signal
+  pub table : List Call
+
+-- acts on key 7, one after the other
+abbrev pub runOf : List Act → List Call → List Step
+runOf [] ys = []
+runOf (act ∷ more) ys =
+    record {
+      answer = answerNumber (ranOf ys 7 act .done .answer);
+      signals = ranOf ys 7 act .done .signals;
+      table = tableOf ys 7 act;
+    }
+    ∷ runOf more (tableOf ys 7 act)
+
+abbrev pub clearing : Switchover
+clearing = record { code = 1 }
+
+abbrev pub immediate : Switchover
+immediate = record { code = 0 }
+
+abbrev pub both : Act
+both = Opens (Named (record { hard = true; soft = Symmetric }))
+
+-- B1 to B14
+unfoldable pub benchRun : List Act
+benchRun =
+    both
+    ∷ Meets (Setup clearing 3)
+    ∷ Meets Ready
+    ∷ Meets (Setup clearing 3)
+    ∷ Meets (Setup immediate 9)
+    ∷ Meets (Setup clearing 5)
+    ∷ Meets Ready
+    ∷ Meets (FromCalled 1 (WithCause complete) NoCrankback)
+    ∷ Meets (FromCalled 1 NoCause NoCrankback)
+    ∷ Meets Trigger
+    ∷ Meets PathFound
+    ∷ Meets (Setup clearing 6)
+    ∷ Meets (Connect 4 true)
+    ∷ both
+    ∷ []
+
+-- the row after a step: the call in a state, with its last number and its record number, and the other records empty
+unfoldable pub after : List Call → ℕ → List Signal → State → ℕ → ℕ → Step
+after others answer sent s last remote =
+    record {
+      answer = answer;
+      signals = places sent;
+      table = record { key = 7; hard = true; soft = Symmetric; state = s; last = last; remote = remote } ∷ others;
+    }
+
+-- as 01 prints them: answer, signals, state with (incumbent, rerouting), last number given, record number
+unfoldable pub benchShown : List Call → List Step
+benchShown others =
+    -- B1
+    after others 0 [] (Idle 1) 1 0
+    -- B2
+    ∷ after others 0 [] (SoftInitiated 1 2) 2 3
+    -- B3
+    ∷ after others 0 (connectOn 2 ∷ []) (Awaiting 1 2) 2 3
+    -- B4
+    ∷ after others 0 (rejection oldNumber ∷ []) (Awaiting 1 2) 2 3
+    -- B5
+    ∷ after others 0 (rejection unsupported ∷ []) (Awaiting 1 2) 2 3
+    -- B6
+    ∷ after others 0 (releaseOf ReroutingRelease 2 Absent ∷ []) (SoftInitiated 1 3) 3 5
+    -- B7
+    ∷ after others 0 (connectOn 3 ∷ []) (Awaiting 1 3) 3 5
+    -- B8
+    ∷ after others 0 (switchTo 3 ∷ []) (Idle 3) 3 5
+    -- B9
+    ∷ after others 107 [] (Idle 3) 3 5
+    -- B10
+    ∷ after others 0 [] (SoftTriggered 3) 3 5
+    -- B11
+    ∷ after others 0 (setupOn 4 ∷ []) (SoftProceeding 3 4) 4 5
+    -- B12
+    ∷ after others 0 (rejection inProgress ∷ []) (SoftProceeding 3 4) 4 5
+    -- B13
+    ∷ after others 0 (switchTo 4 ∷ releaseOf IncumbentRelease 3 (Numbered complete) ∷ []) (Idle 4) 4 5
+    -- B14
+    ∷ after others 103 [] (Idle 4) 4 5
+    ∷ []
+
+-- the statement, for a row of one record and `more` beside it
+abbrev pub BenchRun : ℕ → Type 0
+BenchRun more = runOf benchRun (emptied ∷ replicate more emptied) ≡ benchShown (replicate more emptied)
