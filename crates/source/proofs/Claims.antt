@@ -8,7 +8,7 @@ use mathlib.Core.List.{List, [], _∷_, _++_}
 use mathlib.Core.Logic.{_↔_, _⊎_, inl, inr}
 use lib.Dec.{eqb, ltb}
 use lib.ListN.{length}
-use borrow.Author.Tests.{lt-ltb, le-ltb, ltb-true, ltb-false, leb-false, eqb-true}
+use borrow.Author.Tests.{lt-ltb, le-ltb, ltb-true, ltb-false, leb-false}
 use Rattle.signal.specs.declared.Answer.{Answer}
 use Rattle.signal.specs.declared.Soft.{Soft}
 use Rattle.signal.specs.declared.Fresh.{Fresh}
@@ -17,8 +17,9 @@ use Rattle.signal.specs.declared.Kind.the-variants.{SetupRequest}
 use Rattle.signal.specs.declared.Signal.{Signal}
 use Rattle.signal.specs.Signals.{places}
 use Rattle.signal.specs.Numbers.{answerNumber, freshAfter, isClearing, isLate}
-use Rattle.signal.specs.Counting.{one, count, ofKind, named, endedSent}
+use Rattle.signal.specs.Counting.{count, ofKind, named, endedSent}
 use Rattle.signal.proofs.Claims.{spent-exactly, next-exactly}
+use Rattle.signal.proofs.Counting.{count-append, one-most, one-same}
 use Rattle.source_states.specs.declared.State.{State}
 use Rattle.source_states.specs.declared.Event.{Event}
 use Rattle.source_states.specs.declared.Event.the-variants.{Trigger, PathFound, NoPath, Connect, Setup, FromCalling, FromCalled, Ready, Expiry}
@@ -167,27 +168,6 @@ state-same c (Moves s) = refl
 state-same c (Gives s n) = refl
 state-same c (Accepts s n number) = refl
 state-same c Ends = refl
-
--- counting
-count-append : (x : ℕ) (a b : List ℕ) → count x (a ++ b) ≡ count x a + count x b
-count-append x [] b = omega arith
-count-append x (y ∷ a) b = omega (arith, count-append x a b)
-
-one-most : (x y : ℕ) → one x y ≤ 1
-unfolding one
-one-most x y = by-test (eqb x y)
-  where
-    by-test : (b : Bool) → cond b 1 0 ≤ 1
-    by-test true = omega arith
-    by-test false = omega arith
-
-one-same : (x y : ℕ) → 1 ≤ one x y → x ≡ y
-unfolding one
-one-same x y = by-test (eqb x y) refl
-  where
-    by-test : (b : Bool) → eqb x y ≡ b → 1 ≤ cond b 1 0 → x ≡ y
-    by-test true p h = eqb-true x y p
-    by-test false p h = absurd (omega arith)
 
 -- a given number is the last plus one, and is given once
 given-most : (x last : ℕ) (ch : Change) → Takes (freshAfter last) ch → count x (givenBy ch) ≤ 1

@@ -2,5 +2,6 @@ pub mod Told
 pub mod Shape
 pub mod Keys
 pub mod Search
+pub mod Fit
 pub mod Claims
 pub mod Bench

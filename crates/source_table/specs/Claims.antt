@@ -1,18 +1,42 @@
 -- The claims on one opening or event over a lent row of records: any row, fit or not, any key and any act. `Ran` is what is decided, and `tableOf` the row after it: the
 -- two that the contracts of `handle` and `handle64` fix. "01" is the scope document, a demand one of the three in README.md. Proofs: proofs/Claims.antt. Assumes
 -- nothing.
-use Prim.Native.Nat.{ℕ, _<_}
+use Prim.Native.Nat.{ℕ, _≤_, _<_}
 use mathlib.Core.Path.{_≡_}
 use mathlib.Core.Bool.{true, false}
 use mathlib.Core.List.{List, []}
+use mathlib.Core.Logic.{_↔_}
 use lib.ListN.{length, getD}
 use Rattle.signal.specs.Signals.{places}
 use Rattle.signal.specs.Numbers.{answerNumber}
+use Rattle.source_states.specs.States.{isNull}
 use Rattle.source.specs.declared.Call.{Call}
 use Rattle.source.specs.Record.{emptied}
+use Rattle.source.specs.Claims.{Sound}
 use Rattle.source_table.specs.declared.Act.{Act}
 use Rattle.source_table.specs.Fit.{fitTable}
 use Rattle.source_table.specs.Table.{ranOf, tableOf, ranFitOf, tableFitOf}
+
+-- 01, 101, of one record in use: it is not in Null, has a last number of at least 1, and its held numbers lie between 1 and the last and differ (`Sound`)
+pub record InUse (c : Call) : Type 0 where
+  pub live : isNull (c .state) ≡ false
+  pub given : 1 ≤ c .last
+  pub held : Sound c
+
+-- 01, 101, of one record: an empty one is all empty, and one that is not is in use
+pub record FitRecord (c : Call) : Type 0 where
+  pub empty : c .key ≡ 0 → c ≡ emptied
+  pub used : (c .key ≡ 0 → ⊥) → InUse c
+
+-- 01, 101, of the table: at most 1,024 records, no two different places with one key but 0, and every record fit
+pub record FitTable (ys : List Call) : Type 0 where
+  pub few : length ys ≤ 1024
+  pub keys : (j k : ℕ) → j < k → k < length ys → getD ys j emptied .key ≡ getD ys k emptied .key → getD ys j emptied .key ≡ 0
+  pub each : (i : ℕ) → i < length ys → FitRecord (getD ys i emptied)
+
+-- 01, 101: the test that the code makes is exactly this.
+abbrev pub FitExactly : Type 0
+FitExactly = (ys : List Call) → (fitTable ys ≡ true) ↔ FitTable ys
 
 abbrev pub answered : List Call → ℕ → Act → ℕ
 answered ys key act = answerNumber (ranOf ys key act .done .answer)
