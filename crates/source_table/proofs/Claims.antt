@@ -2,7 +2,7 @@
 use Prim.Native.Nat.{ℕ, _+_, _≤_, _<_}
 use native.Mathlib.Omega.{arith}
 use mathlib.Core.Path.{_≡_, refl, sym, ap, _∙_}
-use mathlib.Core.Bool.{Bool, true, false, _&&_, cond}
+use mathlib.Core.Bool.{Bool, true, false, not, _&&_, cond}
 use mathlib.Core.List.{List, []}
 use lib.Dec.{eqb}
 use lib.ListN.{length, getD, set, length-set}
@@ -26,21 +26,21 @@ use Rattle.source_table.specs.declared.Ran.{Ran}
 use Rattle.source_table.specs.Fit.{fitTable, fitKeys, everyFit}
 use Rattle.source_table.specs.Table.{soughtIn, openingAt, openingBy, meetingAt, actOf, decideFitOf, decideOf, refusedAt, ranOf, tableOf, ranFitOf}
 use Rattle.source_table.specs.Claims as claim
-use Rattle.source_table.proofs.Search.{first, sought-is, seen-is, FoundAt, found-at}
+use Rattle.source_table.proofs.Search.{first, sought-is, seen-is, FoundAt, found-at, isAt, callIn, on-record, call-of, stands-on-record}
 
 -- the checked decision, by whether the table is fit
-ran-is : (ys : List Call) (key : ℕ) (act : Act) → ranOf ys key act ≡ cond (fitTable ys) (ranFitOf ys key act) (refusedAt (length ys) TableUnfit)
+pub ran-is : (ys : List Call) (key : ℕ) (act : Act) → ranOf ys key act ≡ cond (fitTable ys) (ranFitOf ys key act) (refusedAt (length ys) TableUnfit)
 ran-is ys key act = ap (λ s. decideOf (length ys) s (fitKeys ys) key act) (seen-is ys key)
 
 -- what is decided leaves the row and sends nothing
-abbrev Untouched : List Call → Ran → Type 0
+abbrev pub Untouched : List Call → Ran → Type 0
 Untouched ys d = (set ys (d .at) (d .call) ≡ ys) × (d .done .signals ≡ places [])
 
 -- a decision whose refusal leaves the row
 abbrev Quiet : List Call → Ran → Type 0
 Quiet ys d = (answerNumber (d .done .answer) ≡ 0 → ⊥) → Untouched ys d
 
-past-the-end : (ys : List Call) (a : Answer) → Untouched ys (refusedAt (length ys) a)
+pub past-the-end : (ys : List Call) (a : Answer) → Untouched ys (refusedAt (length ys) a)
 past-the-end ys a = (set-out ys (length ys) emptied (omega arith), refl)
 
 -- an opening is never refused by its record
@@ -67,7 +67,7 @@ act-quiet : (ys : List Call) (key : ℕ) (act : Act) → Quiet ys (actOf (length
 act-quiet ys key (Opens wanted) = opening-by ys (first key 0 ys) (first 0 0 ys) key wanted
 act-quiet ys key (Meets e) = meeting-quiet ys key (first key 0 ys) refl e
 
-either : (P : Ran → Type 0) (b : Bool) (a d : Ran) → P a → P d → P (cond b a d)
+pub either : (P : Ran → Type 0) (b : Bool) (a d : Ran) → P a → P d → P (cond b a d)
 either P true a d p q = p
 either P false a d p q = q
 
@@ -93,3 +93,32 @@ pub others-stay : claim.OthersStay
 others-stay ys key act =
     (length-set ys (ranOf ys key act .at) (ranOf ys key act .call),
     λ i other. getD-set-other ys (ranOf ys key act .at) i (ranOf ys key act .call) emptied other)
+
+-- the answer of each kind of act, by what is found
+opening-answer : (n : ℕ) (found free : Found) (key : ℕ) (wanted : Wanted) → answerNumber (openingBy n found free key wanted .done .answer) ≡ cond (isAt found) 103 (cond (not (isAt free)) 104 0)
+opening-answer n (At i c) free key wanted = refl
+opening-answer n Nothing (At i c) key wanted = refl
+opening-answer n Nothing Nothing key wanted = refl
+
+meeting-answer : (n : ℕ) (found : Found) (e : Event) → answerNumber (meetingAt n found e .done .answer) ≡ cond (not (isAt found)) 105 (answerNumber (eventOf (callIn found) e .answer))
+meeting-answer n (At i c) e = refl
+meeting-answer n Nothing e = refl
+
+act-answer : (ys : List Call) (key : ℕ) (act : Act) → answerNumber (actOf (length ys) (record { found = first key 0 ys; free = first 0 0 ys }) key act .done .answer) ≡ claim.answerFor ys key act
+act-answer ys key (Opens wanted) =
+    rw (opening-answer (length ys) (first key 0 ys) (first 0 0 ys) key wanted, on-record key 0 ys, on-record 0 0 ys)
+act-answer ys key (Meets e) = rw (meeting-answer (length ys) (first key 0 ys) e, on-record key 0 ys, call-of key 0 ys)
+
+cond-answer : (b : Bool) (a d : Ran) (m n : ℕ) → answerNumber (a .done .answer) ≡ m → answerNumber (d .done .answer) ≡ n → answerNumber (cond b a d .done .answer) ≡ cond b m n
+cond-answer true a d m n p q = p
+cond-answer false a d m n p q = q
+
+pub answers-in-order : claim.AnswersInOrder
+answers-in-order ys key act =
+    rw (ran-is ys key act, sought-is ys key)
+    (cond-answer (fitTable ys) _ _ _ 101
+    (cond-answer (eqb key 0) (refusedAt (length ys) KeyZero) _ 102 _ refl (act-answer ys key act))
+    refl)
+
+pub found-anywhere : claim.FoundAnywhere
+found-anywhere ys i l = stands-on-record (getD ys i emptied .key) i ys l refl

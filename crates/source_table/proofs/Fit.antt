@@ -40,7 +40,7 @@ not-held true p = absurd (true≢false p)
 not-held false p = refl
 
 -- a number that is within
-abbrev Within : ℕ → ℕ → Type 0
+abbrev pub Within : ℕ → ℕ → Type 0
 Within last x = (1 ≤ x) × (x ≤ last)
 
 within-is : (last x : ℕ) → (isWithin last x ≡ true) ↔ Within last x
@@ -59,7 +59,7 @@ pub record Well (last : ℕ) (xs : List ℕ) : Type 0 where
 none-well : (last : ℕ) → Well last []
 none-well last = record { within = λ x h. absurd (omega arith); differ = λ x. omega arith }
 
-one-well : (last i : ℕ) → Within last i ↔ Well last (i ∷ [])
+pub one-well : (last i : ℕ) → Within last i ↔ Well last (i ∷ [])
 one-well last i =
     (λ w.
     record {
@@ -81,7 +81,7 @@ two-is last i r =
     both-and (not (eqb i r)) (isWithin last i && isWithin last r) (not-held (eqb i r) (ne-eqb i r (t .0)))
     (both-and (isWithin last i) (isWithin last r) (within-is last i .1 (t .1 .0)) (within-is last r .1 (t .1 .1))))
 
-by-equal : {X : Type 0} (x y : ℕ) → (x ≡ y → X) → ((x ≡ y → ⊥) → X) → X
+pub by-equal : {X : Type 0} (x y : ℕ) → (x ≡ y → X) → ((x ≡ y → ⊥) → X) → X
 by-equal {X} x y f g = by-test (eqb x y) refl
   where
   by-test : (b : Bool) → eqb x y ≡ b → X

@@ -4,4 +4,5 @@ pub mod Keys
 pub mod Search
 pub mod Fit
 pub mod Claims
+pub mod Kept
 pub mod Bench

@@ -1,13 +1,14 @@
 -- What one reading of a row finds: the first record with the key, the first empty one, and whether every record is fit. Assumes nothing.
-use Prim.Native.Nat.{ℕ, zero, suc, _+_, _≤_, _<_}
+use Prim.Native.Nat.{ℕ, zero, suc, _+_, _≤_, _<_, zero-le, suc-le-suc}
+use native.Mathlib.Nat.{not-suc-le-zero, le-of-suc-le-suc}
 use native.Mathlib.Omega.{arith}
 use native.Mathlib.Numerals.{add-one}
 use mathlib.Core.Path.{_≡_, refl, sym, ap, _∙_}
-use mathlib.Core.Bool.{Bool, true, false, _&&_, cond, and-true, and-assoc}
+use mathlib.Core.Bool.{Bool, true, false, _&&_, _||_, cond, and-true, and-assoc}
 use mathlib.Core.List.{List, [], _∷_}
 use lib.Dec.{eqb}
 use lib.ListN.{length, getD}
-use borrow.Author.Tests.{eqb-true}
+use borrow.Author.Tests.{eqb-true, eqb-false, eq-eqb}
 use Rattle.lent.specs.Search.{firstFrom, readFrom}
 use Rattle.source.specs.declared.Call.{Call}
 use Rattle.source.specs.Record.{emptied}
@@ -16,6 +17,7 @@ use Rattle.source_table.specs.declared.Found.the-variants.{At, Nothing}
 use Rattle.source_table.specs.declared.Sought.{Sought}
 use Rattle.source_table.specs.declared.Seen.{Seen}
 use Rattle.source_table.specs.Fit.{fitRecord, everyFit}
+use Rattle.source_table.specs.Claims.{onRecord, callOf}
 use Rattle.source_table.specs.Table.{laterOf, soughtAtStart, soughtOf, soughtIn, startOf, stepOf, seenOf}
 
 -- the first record with a key, where the first of the row stands at i
@@ -68,6 +70,11 @@ pub record FoundAt (k i j : ℕ) (c : Call) (ys : List Call) : Type 0 where
   pub inside : place < length ys
   pub there : getD ys place emptied ≡ c
   pub named : c .key ≡ k
+  pub before : (m : ℕ) → m < place → getD ys m emptied .key ≡ k → ⊥
+
+before-it : (d : Call) (ds : List Call) (k n : ℕ) → (d .key ≡ k → ⊥) → ((m : ℕ) → m < n → getD ds m emptied .key ≡ k → ⊥) → (m : ℕ) → m < suc n → getD (d ∷ ds) m emptied .key ≡ k → ⊥
+before-it d ds k n h g zero l e = h e
+before-it d ds k n h g (suc m) l e = g m (le-of-suc-le-suc l) e
 
 pub found-at : (k i j : ℕ) (c : Call) (ys : List Call) → first k i ys ≡ At j c → FoundAt k i j c ys
 unfolding firstFrom
@@ -81,7 +88,44 @@ found-at k i j c (d ∷ ds) p = by-test (found-at k (i + 1) j c ds) (eqb (d .key
   by-test onward true t q =
       let jo : i ≡ j = cc in
       let co : d ≡ c = cc in
-      record { place = 0; at = omega arith; inside = omega arith; there = co; named = ap (λ (x : Call). x .key) (sym co) ∙ eqb-true (d .key) k t }
+      record { place = 0; at = omega arith; inside = omega arith; there = co; named = ap (λ (x : Call). x .key) (sym co) ∙ eqb-true (d .key) k t; before = λ m l q. omega arith }
   by-test onward false t q =
       let r : FoundAt k (i + 1) j c ds = onward q in
-      record { place = suc (r .place); at = omega (arith, r .at); inside = omega (arith, r .inside); there = r .there; named = r .named }
+      record { place = suc (r .place); at = omega (arith, r .at); inside = omega (arith, r .inside); there = r .there; named = r .named; before = before-it d ds k (r .place) (eqb-false (d .key) k t) (r .before) }
+
+-- whether something is found, and what
+abbrev pub isAt : Found → Bool
+isAt (At i c) = true
+isAt Nothing = false
+
+abbrev pub callIn : Found → Call
+callIn (At i c) = c
+callIn Nothing = emptied
+
+pub on-record : (k i : ℕ) (ys : List Call) → isAt (first k i ys) ≡ onRecord k ys
+unfolding firstFrom
+on-record k i [] = refl
+on-record k i (c ∷ cs) = by-test (on-record k (i + 1) cs) (eqb (c .key) k)
+  where
+  by-test : isAt (first k (i + 1) cs) ≡ onRecord k cs → (b : Bool) → isAt (cond b (At i c) (first k (i + 1) cs)) ≡ (b || onRecord k cs)
+  by-test h true = refl
+  by-test h false = h
+
+pub call-of : (k i : ℕ) (ys : List Call) → callIn (first k i ys) ≡ callOf k ys
+unfolding firstFrom
+call-of k i [] = refl
+call-of k i (c ∷ cs) = by-test (call-of k (i + 1) cs) (eqb (c .key) k)
+  where
+  by-test : callIn (first k (i + 1) cs) ≡ callOf k cs → (b : Bool) → callIn (cond b (At i c) (first k (i + 1) cs)) ≡ cond b c (callOf k cs)
+  by-test h true = refl
+  by-test h false = h
+
+or-true-by : (a : Bool) {b : Bool} → b ≡ true → (a || b) ≡ true
+or-true-by true p = refl
+or-true-by false p = p
+
+-- on record, by place
+pub stands-on-record : (k i : ℕ) (ys : List Call) → i < length ys → getD ys i emptied .key ≡ k → onRecord k ys ≡ true
+stands-on-record k i [] l e = absurd (not-suc-le-zero l)
+stands-on-record k zero (c ∷ cs) l e = rw (eq-eqb (c .key) k e)
+stands-on-record k (suc i) (c ∷ cs) l e = or-true-by (eqb (c .key) k) (stands-on-record k i cs (le-of-suc-le-suc l) e)

@@ -3,17 +3,21 @@
 -- nothing.
 use Prim.Native.Nat.{ℕ, _≤_, _<_}
 use mathlib.Core.Path.{_≡_}
-use mathlib.Core.Bool.{true, false}
-use mathlib.Core.List.{List, []}
+use mathlib.Core.Bool.{Bool, true, false, not, _||_, cond}
+use mathlib.Core.List.{List, [], _∷_}
 use mathlib.Core.Logic.{_↔_}
+use lib.Dec.{eqb}
 use lib.ListN.{length, getD}
+use Rattle.signal.specs.declared.Wanted.{Wanted}
 use Rattle.signal.specs.Signals.{places}
 use Rattle.signal.specs.Numbers.{answerNumber}
 use Rattle.source_states.specs.States.{isNull}
 use Rattle.source.specs.declared.Call.{Call}
 use Rattle.source.specs.Record.{emptied}
+use Rattle.source.specs.Events.{eventOf}
 use Rattle.source.specs.Claims.{Sound}
 use Rattle.source_table.specs.declared.Act.{Act}
+use Rattle.source_table.specs.declared.Act.the-variants.{Opens, Meets}
 use Rattle.source_table.specs.Fit.{fitTable}
 use Rattle.source_table.specs.Table.{ranOf, tableOf, ranFitOf, tableFitOf}
 
@@ -37,6 +41,25 @@ pub record FitTable (ys : List Call) : Type 0 where
 -- 01, 101: the test that the code makes is exactly this.
 abbrev pub FitExactly : Type 0
 FitExactly = (ys : List Call) → (fitTable ys ≡ true) ↔ FitTable ys
+
+-- a key stands on record, and the call that it names (the first, which in a fit table is the only one)
+abbrev pub onRecord : ℕ → List Call → Bool
+onRecord k [] = false
+onRecord k (c ∷ cs) = eqb (c .key) k || onRecord k cs
+
+abbrev pub callOf : ℕ → List Call → Call
+callOf k [] = emptied
+callOf k (c ∷ cs) = cond (eqb (c .key) k) c (callOf k cs)
+
+-- 01, "Numbers of refusal", in the printed order. An opening: 103 where the key is on record, 104 where no record is empty. An event: 105 where the key is not on
+-- record, then what the record of the key answers (106 to 108, or 0)
+abbrev pub answerFor : List Call → ℕ → Act → ℕ
+answerFor ys key (Opens wanted) = cond (onRecord key ys) 103 (cond (not (onRecord 0 ys)) 104 0)
+answerFor ys key (Meets e) = cond (not (onRecord key ys)) 105 (answerNumber (eventOf (callOf key ys) e .answer))
+
+-- 101 where the table is unfit, then 102 where the key is 0
+abbrev pub answerWanted : List Call → ℕ → Act → ℕ
+answerWanted ys key act = cond (fitTable ys) (cond (eqb key 0) 102 (answerFor ys key act)) 101
 
 abbrev pub answered : List Call → ℕ → Act → ℕ
 answered ys key act = answerNumber (ranOf ys key act .done .answer)
@@ -63,3 +86,24 @@ OthersStay =
     (ys : List Call) (key : ℕ) (act : Act) →
     (length (tableOf ys key act) ≡ length ys)
     × ((i : ℕ) → (i ≡ ranOf ys key act .at → ⊥) → getD (tableOf ys key act) i emptied ≡ getD ys i emptied)
+
+-- 01, "Numbers of refusal": checks run in the printed order, and the first that applies is given; 0 exactly when none does. With `FitExactly`, and the claims on
+-- the record for 106 to 108 (source, specs/Claims), each number is given exactly when its words hold and no earlier one's do.
+abbrev pub AnswersInOrder : Type 0
+AnswersInOrder = (ys : List Call) (key : ℕ) (act : Act) → answered ys key act ≡ answerWanted ys key act
+
+-- A key is on record wherever it stands.
+abbrev pub FoundAnywhere : Type 0
+FoundAnywhere = (ys : List Call) (i : ℕ) → i < length ys → onRecord (getD ys i emptied .key) ys ≡ true
+
+-- 01, "The table and its records": an opening that is done takes the lowest empty record.
+abbrev pub TakesLowestEmpty : Type 0
+TakesLowestEmpty =
+    (ys : List Call) (key : ℕ) (wanted : Wanted) → answered ys key (Opens wanted) ≡ 0 →
+    (ranOf ys key (Opens wanted) .at < length ys)
+    × ((getD ys (ranOf ys key (Opens wanted) .at) emptied .key ≡ 0)
+    × ((i : ℕ) → i < ranOf ys key (Opens wanted) .at → getD ys i emptied .key ≡ 0 → ⊥))
+
+-- Demand 1 and 2: a fit table stays fit under every opening and event.
+abbrev pub StaysFit : Type 0
+StaysFit = (ys : List Call) (key : ℕ) (act : Act) → FitTable ys → FitTable (tableOf ys key act)

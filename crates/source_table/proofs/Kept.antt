@@ -1,0 +1,188 @@
+-- A fit table stays fit, and an opening takes the lowest empty record (specs/Claims). Assumes nothing.
+use Prim.Native.Nat.{ℕ, _+_, _≤_, _<_}
+use native.Mathlib.Omega.{arith}
+use mathlib.Core.Path.{_≡_, refl, sym, ap, _∙_}
+use mathlib.Core.Bool.{Bool, true, false, cond, false≢true, true≢false}
+use mathlib.Core.Logic.{_⊎_, inl, inr, ⊎-elim}
+use mathlib.Core.List.{List, []}
+use lib.Dec.{eqb, ltb}
+use lib.ListN.{length, getD, set, length-set}
+use lib.Seq.{getD-set-same, getD-set-other}
+use borrow.Author.Tests.{eqb-false, ltb-true, ltb-false}
+use Rattle.signal.specs.declared.Answer.{Answer}
+use Rattle.signal.specs.declared.Answer.the-variants.{TableUnfit, KeyZero, KeyOnRecord, NoEmptyRecord, KeyNotOnRecord}
+use Rattle.signal.specs.declared.Wanted.{Wanted}
+use Rattle.signal.specs.Numbers.{answerNumber}
+use Rattle.signal.specs.Counting.{count}
+use Rattle.source_states.specs.declared.Event.{Event}
+use Rattle.source_states.specs.States.{isNull}
+use Rattle.source.specs.declared.Call.{Call}
+use Rattle.source.specs.Record.{emptied, openedFor}
+use Rattle.source.specs.Events.{eventOf}
+use Rattle.source.proofs.Claims.{ended-is-emptied, key-and-services-stay, last-by-one, stays-sound}
+use Rattle.source_table.specs.declared.Act.{Act}
+use Rattle.source_table.specs.declared.Act.the-variants.{Opens, Meets}
+use Rattle.source_table.specs.declared.Found.{Found}
+use Rattle.source_table.specs.declared.Found.the-variants.{At, Nothing}
+use Rattle.source_table.specs.declared.Ran.{Ran}
+use Rattle.source_table.specs.Fit.{fitTable}
+use Rattle.source_table.specs.Table.{openingAt, openingBy, meetingAt, actOf, refusedAt, ranOf, tableOf, ranFitOf}
+use Rattle.source_table.specs.Claims as claim
+use Rattle.source_table.specs.Claims.{InUse, FitRecord, FitTable, onRecord}
+use Rattle.source_table.proofs.Search.{first, sought-is, FoundAt, found-at, isAt, on-record, stands-on-record}
+use Rattle.source_table.proofs.Fit.{Well, one-well, by-equal}
+use Rattle.source_table.proofs.Claims.{ran-is, past-the-end, either}
+
+-- a record put into a fit table, with a key that no other place has but 0
+put-fit : (ys : List Call) → FitTable ys → (i : ℕ) (c : Call) → i < length ys → FitRecord c → ((j : ℕ) → (j ≡ i → ⊥) → j < length ys → getD ys j emptied .key ≡ c .key → c .key ≡ 0) → FitTable (set ys i c)
+put-fit ys f i c li fc alone =
+    record {
+      few = rw (length-set ys i c) (f .few);
+      keys = λ j k l m e. keys j k l (rw (length-set ys i c) at m) e;
+      each = λ j m. by-equal j i (λ e. rw (e, getD-set-same ys i c emptied li) fc)
+          (λ n. rw (getD-set-other ys i j c emptied n) (f .each j (rw (length-set ys i c) at m)));
+    }
+  where
+  same : getD (set ys i c) i emptied ≡ c
+  same = getD-set-same ys i c emptied li
+
+  other : (j : ℕ) → (j ≡ i → ⊥) → getD (set ys i c) j emptied ≡ getD ys j emptied
+  other j n = getD-set-other ys i j c emptied n
+
+  key-of : {a b : Call} → a ≡ b → a .key ≡ b .key
+  key-of e = ap (λ (x : Call). x .key) e
+
+  keys : (j k : ℕ) → j < k → k < length ys → getD (set ys i c) j emptied .key ≡ getD (set ys i c) k emptied .key → getD (set ys i c) j emptied .key ≡ 0
+  keys j k l m e =
+      by-equal j i
+      (λ p.
+      let n : k ≡ i → ⊥ = λ q. omega arith in
+      let h : getD (set ys i c) j emptied .key ≡ c .key = key-of (ap (λ (x : ℕ). getD (set ys i c) x emptied) p ∙ same) in
+      h ∙ alone k n m (sym (key-of (other k n)) ∙ (sym e ∙ h)))
+      (λ n.
+      by-equal k i
+      (λ q.
+      let h : getD (set ys i c) k emptied .key ≡ c .key = key-of (ap (λ (x : ℕ). getD (set ys i c) x emptied) q ∙ same) in
+      let lj : j < length ys = omega arith in
+      e ∙ (h ∙ alone j n lj (sym (key-of (other j n)) ∙ (e ∙ h))))
+      (λ o. key-of (other j n) ∙ f .keys j k l m (sym (key-of (other j n)) ∙ (e ∙ key-of (other k o)))))
+
+emptied-fit : FitRecord emptied
+emptied-fit = record { empty = λ k. refl; used = λ n. absurd (n refl) }
+
+-- a new call
+opened-fit : (key : ℕ) (wanted : Wanted) → (key ≡ 0 → ⊥) → FitRecord (openedFor key wanted .call)
+opened-fit key wanted n =
+    let w : Well 1 _ = one-well 1 1 .0 (omega arith) in
+    record {
+      empty = λ k. absurd (n k);
+      used = λ k. record { live = refl; given = omega arith; held = record { within = w .within; differ = w .differ } };
+    }
+
+-- a call after an event: emptied, or the same call still in use
+after-event : (c : Call) (e : Event) → (c .key ≡ 0 → ⊥) → InUse c → FitRecord (eventOf c e .call) × ((eventOf c e .call .key ≡ 0) ⊎ (eventOf c e .call .key ≡ c .key))
+after-event c e n u = by-test (isNull (eventOf c e .call .state)) refl
+  where
+  by-test : (b : Bool) → isNull (eventOf c e .call .state) ≡ b → FitRecord (eventOf c e .call) × ((eventOf c e .call .key ≡ 0) ⊎ (eventOf c e .call .key ≡ c .key))
+  by-test true t =
+      let z : eventOf c e .call ≡ emptied = ended-is-emptied c e (eventOf c e) refl (u .live) t in
+      (rw z emptied-fit, inl (ap (λ (x : Call). x .key) z))
+  by-test false t =
+      let k : eventOf c e .call .key ≡ c .key = key-and-services-stay c e (eventOf c e) refl t .0 in
+      let l = last-by-one c e (eventOf c e) refl t in
+      (record {
+        empty = λ q. absurd (n (sym k ∙ q));
+        used = λ q.
+            record {
+              live = t;
+              given = omega (arith, l .0, u .given);
+              held = stays-sound c e (eventOf c e) refl (u .held);
+            };
+      },
+      inr k)
+
+-- two places of a fit table with one key hold 0
+apart : (ys : List Call) → FitTable ys → (i j : ℕ) → i < length ys → j < length ys → (j ≡ i → ⊥) → getD ys j emptied .key ≡ getD ys i emptied .key → getD ys i emptied .key ≡ 0
+apart ys f i j li lj o k = by-order (ltb j i) refl
+  where
+  by-order : (b : Bool) → ltb j i ≡ b → getD ys i emptied .key ≡ 0
+  by-order true t = sym k ∙ f .keys j i (ltb-true j i t) li k
+  by-order false t =
+      let g : i < j = omega (arith, ltb-false j i t, o) in
+      f .keys i j g lj (sym k)
+
+-- what is decided keeps a fit table fit
+abbrev Keeps : List Call → Ran → Type 0
+Keeps ys d = FitTable (set ys (d .at) (d .call))
+
+refusal-keeps : (ys : List Call) → FitTable ys → (a : Answer) → Keeps ys (refusedAt (length ys) a)
+refusal-keeps ys f a = rw (past-the-end ys a .0) f
+
+opening-keeps : (ys : List Call) → FitTable ys → (key : ℕ) → (key ≡ 0 → ⊥) → first key 0 ys ≡ Nothing → (wanted : Wanted) (free : Found) → first 0 0 ys ≡ free → Keeps ys (openingAt (length ys) free key wanted)
+opening-keeps ys f key n none wanted (At i c) p =
+    let a : FoundAt 0 0 i c ys = found-at 0 0 i c ys p in
+    let li : i < length ys = omega (arith, a .at, a .inside) in
+    put-fit ys f i (openedFor key wanted .call) li (opened-fit key wanted n)
+    (λ j o l e. absurd (true≢false (sym (stands-on-record key j ys l e) ∙ (sym (on-record key 0 ys) ∙ ap isAt none))))
+opening-keeps ys f key n none wanted Nothing p = refusal-keeps ys f NoEmptyRecord
+
+opening-by : (ys : List Call) → FitTable ys → (key : ℕ) → (key ≡ 0 → ⊥) → (wanted : Wanted) (found : Found) → first key 0 ys ≡ found → Keeps ys (openingBy (length ys) found (first 0 0 ys) key wanted)
+opening-by ys f key n wanted (At i c) p = refusal-keeps ys f KeyOnRecord
+opening-by ys f key n wanted Nothing p = opening-keeps ys f key n p wanted (first 0 0 ys) refl
+
+meeting-keeps : (ys : List Call) → FitTable ys → (key : ℕ) → (key ≡ 0 → ⊥) → (found : Found) → first key 0 ys ≡ found → (e : Event) → Keeps ys (meetingAt (length ys) found e)
+meeting-keeps ys f key n (At i c) p e =
+    let a : FoundAt key 0 i c ys = found-at key 0 i c ys p in
+    let li : i < length ys = omega (arith, a .at, a .inside) in
+    let ip : i ≡ a .place = omega (arith, a .at) in
+    let here : getD ys i emptied ≡ c = ap (λ (x : ℕ). getD ys x emptied) ip ∙ a .there in
+    let cn : c .key ≡ 0 → ⊥ = λ q. n (sym (a .named) ∙ q) in
+    let fc : FitRecord c = rw here at (f .each i li) in
+    let r = after-event c e cn (fc .used cn) in
+    put-fit ys f i (eventOf c e .call) li (r .0)
+    (λ j o l q.
+    ⊎-elim (λ z. z)
+    (λ same.
+    let k : getD ys j emptied .key ≡ getD ys i emptied .key = q ∙ (same ∙ ap (λ (x : Call). x .key) (sym here)) in
+    absurd (cn (ap (λ (x : Call). x .key) (sym here) ∙ apart ys f i j li l o k)))
+    (r .1))
+meeting-keeps ys f key n Nothing p e = refusal-keeps ys f KeyNotOnRecord
+
+act-keeps : (ys : List Call) → FitTable ys → (key : ℕ) → (key ≡ 0 → ⊥) → (act : Act) → Keeps ys (actOf (length ys) (record { found = first key 0 ys; free = first 0 0 ys }) key act)
+act-keeps ys f key n (Opens wanted) = opening-by ys f key n wanted (first key 0 ys) refl
+act-keeps ys f key n (Meets e) = meeting-keeps ys f key n (first key 0 ys) refl e
+
+by-key : (ys : List Call) → FitTable ys → (key : ℕ) (act : Act) (b : Bool) → eqb key 0 ≡ b → Keeps ys (cond b (refusedAt (length ys) KeyZero) (actOf (length ys) (record { found = first key 0 ys; free = first 0 0 ys }) key act))
+by-key ys f key act true t = refusal-keeps ys f KeyZero
+by-key ys f key act false t = act-keeps ys f key (eqb-false key 0 t) act
+
+pub stays-fit : claim.StaysFit
+stays-fit ys key act f =
+    rw (ran-is ys key act, sought-is ys key)
+    (either (Keeps ys) (fitTable ys) _ _ (by-key ys f key act (eqb key 0) refl) (refusal-keeps ys f TableUnfit))
+
+-- an opening that is done
+abbrev Lowest : List Call → Ran → Type 0
+Lowest ys d =
+    answerNumber (d .done .answer) ≡ 0 →
+    (d .at < length ys) × ((getD ys (d .at) emptied .key ≡ 0) × ((i : ℕ) → i < d .at → getD ys i emptied .key ≡ 0 → ⊥))
+
+lowest-at : (ys : List Call) (key : ℕ) (wanted : Wanted) (free : Found) → first 0 0 ys ≡ free → Lowest ys (openingAt (length ys) free key wanted)
+lowest-at ys key wanted (At i c) p h =
+    let a : FoundAt 0 0 i c ys = found-at 0 0 i c ys p in
+    let ip : i ≡ a .place = omega (arith, a .at) in
+    (omega (arith, a .at, a .inside),
+    (ap (λ (x : ℕ). getD ys x emptied .key) ip ∙ (ap (λ (x : Call). x .key) (a .there) ∙ a .named),
+    λ j l. a .before j (omega (arith, a .at))))
+lowest-at ys key wanted Nothing p h = absurd (omega arith)
+
+lowest-by : (ys : List Call) (key : ℕ) (wanted : Wanted) (found : Found) → Lowest ys (openingBy (length ys) found (first 0 0 ys) key wanted)
+lowest-by ys key wanted (At i c) h = absurd (omega arith)
+lowest-by ys key wanted Nothing h = lowest-at ys key wanted (first 0 0 ys) refl h
+
+pub takes-lowest-empty : claim.TakesLowestEmpty
+takes-lowest-empty ys key wanted =
+    rw (ran-is ys key (Opens wanted), sought-is ys key)
+    (either (Lowest ys) (fitTable ys) _ _
+    (either (Lowest ys) (eqb key 0) _ _ (λ h. absurd (omega arith)) (lowest-by ys key wanted (first key 0 ys)))
+    (λ h. absurd (omega arith)))
