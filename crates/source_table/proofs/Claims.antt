@@ -57,10 +57,11 @@ meeting-quiet : (ys : List Call) (key : ℕ) (found : Found) → first key 0 ys 
 meeting-quiet ys key (At i c) p e h =
     let f : FoundAt key 0 i c ys = found-at key 0 i c ys p in
     let kept = record-refusals c e (eventOf c e) refl h in
-    let at : i ≡ f .place = omega (arith, f .at) in
-    (ap (set ys i) (kept .0)
-    ∙ (ap (λ (n : ℕ). set ys n c) at ∙ (ap (set ys (f .place)) (sym (f .there)) ∙ set-getD ys (f .place) emptied)),
-    kept .1)
+    let at : i ≡ f .place = omega (arith, f .at) in (
+      ap (set ys i) (kept .0)
+          ∙ (ap (λ (n : ℕ). set ys n c) at ∙ (ap (set ys (f .place)) (sym (f .there)) ∙ set-getD ys (f .place) emptied)),
+      kept .1,
+    )
 meeting-quiet ys key Nothing p e h = past-the-end ys KeyNotOnRecord
 
 act-quiet : (ys : List Call) (key : ℕ) (act : Act) → Quiet ys (actOf (length ys) (record { found = first key 0 ys; free = first 0 0 ys }) key act)
@@ -90,9 +91,10 @@ pub fit-needs-no-check : claim.FitNeedsNoCheck
 fit-needs-no-check ys key act fit = (same-ran ys key act fit, ap (λ d. set ys (d .at) (d .call)) (same-ran ys key act fit))
 
 pub others-stay : claim.OthersStay
-others-stay ys key act =
-    (length-set ys (ranOf ys key act .at) (ranOf ys key act .call),
-    λ i other. getD-set-other ys (ranOf ys key act .at) i (ranOf ys key act .call) emptied other)
+others-stay ys key act = (
+  length-set ys (ranOf ys key act .at) (ranOf ys key act .call),
+  λ i other. getD-set-other ys (ranOf ys key act .at) i (ranOf ys key act .call) emptied other,
+)
 
 -- the answer of each kind of act, by what is found
 opening-answer : (n : ℕ) (found free : Found) (key : ℕ) (wanted : Wanted) → answerNumber (openingBy n found free key wanted .done .answer) ≡ cond (isAt found) 103 (cond (not (isAt free)) 104 0)

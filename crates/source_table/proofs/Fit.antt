@@ -44,12 +44,13 @@ abbrev pub Within : ℕ → ℕ → Type 0
 Within last x = (1 ≤ x) × (x ≤ last)
 
 within-is : (last x : ℕ) → (isWithin last x ≡ true) ↔ Within last x
-within-is last x =
-    (λ p.
-    let q : (not (eqb x 0) ≡ true) × (leb x last ≡ true) = and-both (not (eqb x 0)) (leb x last) p in
-    let z : x ≡ 0 → ⊥ = eqb-false x 0 (not-true (eqb x 0) (q .0)) in
-    (omega arith, leb-true x last (q .1)),
-    λ w. both-and (not (eqb x 0)) (leb x last) (not-held (eqb x 0) (ne-eqb x 0 (λ z. omega arith))) (le-leb x last (w .1)))
+within-is last x = (
+  λ p.
+      let q : (not (eqb x 0) ≡ true) × (leb x last ≡ true) = and-both (not (eqb x 0)) (leb x last) p in
+      let z : x ≡ 0 → ⊥ = eqb-false x 0 (not-true (eqb x 0) (q .0)) in
+      (omega arith, leb-true x last (q .1)),
+  λ w. both-and (not (eqb x 0)) (leb x last) (not-held (eqb x 0) (ne-eqb x 0 (λ z. omega arith))) (le-leb x last (w .1)),
+)
 
 -- held numbers that are within, and differ
 pub record Well (last : ℕ) (xs : List ℕ) : Type 0 where
@@ -60,51 +61,55 @@ none-well : (last : ℕ) → Well last []
 none-well last = record { within = λ x h. absurd (omega arith); differ = λ x. omega arith }
 
 pub one-well : (last i : ℕ) → Within last i ↔ Well last (i ∷ [])
-one-well last i =
-    (λ w.
-    record {
-      within = λ x h. let e : x ≡ i = one-same x i (omega arith) in omega arith;
-      differ = λ x. omega (arith, one-most x i);
-    },
-    λ w. w .within i (omega (arith, one-self i)))
+one-well last i = (
+  λ w.
+      record {
+        within = λ x h. let e : x ≡ i = one-same x i (omega arith) in omega arith;
+        differ = λ x. omega (arith, one-most x i);
+      },
+  λ w. w .within i (omega (arith, one-self i)),
+)
 
 abbrev Two : ℕ → ℕ → ℕ → Type 0
 Two last i r = (i ≡ r → ⊥) × (Within last i × Within last r)
 
 two-is : (last i r : ℕ) → (areWithin last i r ≡ true) ↔ Two last i r
-two-is last i r =
-    (λ p.
-    let q : (not (eqb i r) ≡ true) × ((isWithin last i && isWithin last r) ≡ true) = and-both (not (eqb i r)) (isWithin last i && isWithin last r) p in
-    let w : (isWithin last i ≡ true) × (isWithin last r ≡ true) = and-both (isWithin last i) (isWithin last r) (q .1) in
-    (eqb-false i r (not-true (eqb i r) (q .0)), (within-is last i .0 (w .0), within-is last r .0 (w .1))),
-    λ t.
-    both-and (not (eqb i r)) (isWithin last i && isWithin last r) (not-held (eqb i r) (ne-eqb i r (t .0)))
-    (both-and (isWithin last i) (isWithin last r) (within-is last i .1 (t .1 .0)) (within-is last r .1 (t .1 .1))))
+two-is last i r = (
+  λ p.
+      let q : (not (eqb i r) ≡ true) × ((isWithin last i && isWithin last r) ≡ true) = and-both (not (eqb i r)) (isWithin last i && isWithin last r) p in
+      let w : (isWithin last i ≡ true) × (isWithin last r ≡ true) = and-both (isWithin last i) (isWithin last r) (q .1) in
+      (eqb-false i r (not-true (eqb i r) (q .0)), (within-is last i .0 (w .0), within-is last r .0 (w .1))),
+  λ t.
+      both-and (not (eqb i r)) (isWithin last i && isWithin last r) (not-held (eqb i r) (ne-eqb i r (t .0)))
+      (both-and (isWithin last i) (isWithin last r) (within-is last i .1 (t .1 .0)) (within-is last r .1 (t .1 .1))),
+)
 
 pub by-equal : {X : Type 0} (x y : ℕ) → (x ≡ y → X) → ((x ≡ y → ⊥) → X) → X
 by-equal {X} x y f g = by-test (eqb x y) refl
   where
-  by-test : (b : Bool) → eqb x y ≡ b → X
-  by-test true p = f (eqb-true x y p)
-  by-test false p = g (eqb-false x y p)
+    by-test : (b : Bool) → eqb x y ≡ b → X
+    by-test true p = f (eqb-true x y p)
+    by-test false p = g (eqb-false x y p)
 
 two-well : (last i r : ℕ) → Two last i r ↔ Well last (i ∷ r ∷ [])
-two-well last i r =
-    (λ t.
-    record {
-      within = λ x h. by-equal x i (λ e. rw e (t .1 .0)) (λ n.
-          let z : one x i ≡ 0 = one-other x i n in
-          let e : x ≡ r = one-same x r (omega arith) in
-          rw e (t .1 .1));
-      differ = λ x. by-equal x i (λ e.
-          let z : one x r ≡ 0 = one-other x r (λ q. t .0 (sym e ∙ q)) in
-          omega (arith, one-most x i)) (λ n. let z : one x i ≡ 0 = one-other x i n in omega (arith, one-most x r));
-    },
-    λ w.
-    (λ e.
-    let z : one i r ≡ 1 = rw (sym e) (one-self i) in
-    omega (arith, w .differ i, one-self i),
-    (w .within i (omega (arith, one-self i)), w .within r (omega (arith, one-self r)))))
+two-well last i r = (
+  λ t.
+      record {
+        within = λ x h. by-equal x i (λ e. rw e (t .1 .0)) (λ n.
+            let z : one x i ≡ 0 = one-other x i n in
+            let e : x ≡ r = one-same x r (omega arith) in
+            rw e (t .1 .1));
+        differ = λ x. by-equal x i (λ e.
+            let z : one x r ≡ 0 = one-other x r (λ q. t .0 (sym e ∙ q)) in
+            omega (arith, one-most x i)) (λ n. let z : one x i ≡ 0 = one-other x i n in omega (arith, one-most x r));
+      },
+  λ w. (
+    λ e.
+        let z : one i r ≡ 1 = rw (sym e) (one-self i) in
+        omega (arith, w .differ i, one-self i),
+    (w .within i (omega (arith, one-self i)), w .within r (omega (arith, one-self r))),
+  ),
+)
 
 -- what a state in use holds
 held-is : (last : ℕ) (s : State) → (fitHeld last s ≡ true) ↔ ((isNull s ≡ false) × Well last (heldIn s))
@@ -150,31 +155,34 @@ emptied-is c k p =
 
 -- a record in use
 used-is : (c : Call) → ((not (eqb (c .last) 0) && fitHeld (c .last) (c .state)) ≡ true) ↔ InUse c
-used-is c =
-    (λ p.
-    let q = and-both (not (eqb (c .last) 0)) (fitHeld (c .last) (c .state)) p in
-    let z : c .last ≡ 0 → ⊥ = eqb-false (c .last) 0 (not-true (eqb (c .last) 0) (q .0)) in
-    let h = held-is (c .last) (c .state) .0 (q .1) in
-    record {
-      live = h .0;
-      given = omega arith;
-      held = record { within = h .1 .within; differ = h .1 .differ };
-    },
-    λ u.
-    both-and (not (eqb (c .last) 0)) (fitHeld (c .last) (c .state))
-    (not-held (eqb (c .last) 0) (ne-eqb (c .last) 0 (λ z. omega (arith, u .given))))
-    (held-is (c .last) (c .state) .1 (u .live, record { within = u .held .within; differ = u .held .differ })))
+used-is c = (
+  λ p.
+      let q = and-both (not (eqb (c .last) 0)) (fitHeld (c .last) (c .state)) p in
+      let z : c .last ≡ 0 → ⊥ = eqb-false (c .last) 0 (not-true (eqb (c .last) 0) (q .0)) in
+      let h = held-is (c .last) (c .state) .0 (q .1) in
+      record {
+        live = h .0;
+        given = omega arith;
+        held = record { within = h .1 .within; differ = h .1 .differ };
+      },
+  λ u.
+      both-and (not (eqb (c .last) 0)) (fitHeld (c .last) (c .state))
+      (not-held (eqb (c .last) 0) (ne-eqb (c .last) 0 (λ z. omega (arith, u .given))))
+      (held-is (c .last) (c .state) .1 (u .live, record { within = u .held .within; differ = u .held .differ })),
+)
 
 pub record-is : (c : Call) → (fitRecord c ≡ true) ↔ FitRecord c
 record-is c = by-test (eqb (c .key) 0) refl
   where
-  by-test : (b : Bool) → eqb (c .key) 0 ≡ b → (cond b (isEmptied c) (not (eqb (c .last) 0) && fitHeld (c .last) (c .state)) ≡ true) ↔ FitRecord c
-  by-test true t =
-      (λ p. record { empty = λ k. emptied-is c k p; used = λ n. absurd (n (eqb-true (c .key) 0 t)) },
-      λ f. rw (f .empty (eqb-true (c .key) 0 t)))
-  by-test false t =
-      (λ p. record { empty = λ k. absurd (eqb-false (c .key) 0 t k); used = λ n. used-is c .0 p },
-      λ f. used-is c .1 (f .used (eqb-false (c .key) 0 t)))
+    by-test : (b : Bool) → eqb (c .key) 0 ≡ b → (cond b (isEmptied c) (not (eqb (c .last) 0) && fitHeld (c .last) (c .state)) ≡ true) ↔ FitRecord c
+    by-test true t = (
+      λ p. record { empty = λ k. emptied-is c k p; used = λ n. absurd (n (eqb-true (c .key) 0 t)) },
+      λ f. rw (f .empty (eqb-true (c .key) 0 t)),
+    )
+    by-test false t = (
+      λ p. record { empty = λ k. absurd (eqb-false (c .key) 0 t k); used = λ n. used-is c .0 p },
+      λ f. used-is c .1 (f .used (eqb-false (c .key) 0 t)),
+    )
 
 every-fit : (ys : List Call) → everyFit ys ≡ true → (i : ℕ) → i < length ys → FitRecord (getD ys i emptied)
 every-fit [] p i l = absurd (not-suc-le-zero l)
@@ -192,21 +200,22 @@ key-at : (ys : List Call) (i : ℕ) → getD (map (λ c. c .key) ys) i 0 ≡ get
 key-at ys i = List·getD-map (λ (c : Call). c .key) ys i emptied
 
 pub fit-exactly : claim.FitExactly
-fit-exactly ys =
-    (λ p.
-    let q = and-both (fitKeys ys) (everyFit ys) p in
-    let k = and-both (not (ltb 1024 (length ys))) (distinctOf (map (λ c. c .key) ys)) (q .0) in
-    let d = distinct-exactly (map (λ c. c .key) ys) .0 (k .1) in
-    record {
-      few = ltb-false 1024 (length ys) (not-true (ltb 1024 (length ys)) (k .0));
-      keys = λ i j l m e.
-          sym (key-at ys i) ∙ d i j l (rw (length-map ys (λ (c : Call). c .key)) m) (key-at ys i ∙ (e ∙ sym (key-at ys j)));
-      each = every-fit ys (q .1);
-    },
-    λ f.
-    both-and (fitKeys ys) (everyFit ys)
-    (both-and (not (ltb 1024 (length ys))) (distinctOf (map (λ c. c .key) ys))
-    (not-held (ltb 1024 (length ys)) (le-ltb 1024 (length ys) (f .few)))
-    (distinct-exactly (map (λ c. c .key) ys) .1 (λ i j l m e.
-    key-at ys i ∙ f .keys i j l (rw (length-map ys (λ (c : Call). c .key)) at m) (sym (key-at ys i) ∙ (e ∙ key-at ys j)))))
-    (fit-every ys (f .each)))
+fit-exactly ys = (
+  λ p.
+      let q = and-both (fitKeys ys) (everyFit ys) p in
+      let k = and-both (not (ltb 1024 (length ys))) (distinctOf (map (λ c. c .key) ys)) (q .0) in
+      let d = distinct-exactly (map (λ c. c .key) ys) .0 (k .1) in
+      record {
+        few = ltb-false 1024 (length ys) (not-true (ltb 1024 (length ys)) (k .0));
+        keys = λ i j l m e.
+            sym (key-at ys i) ∙ d i j l (rw (length-map ys (λ (c : Call). c .key)) m) (key-at ys i ∙ (e ∙ sym (key-at ys j)));
+        each = every-fit ys (q .1);
+      },
+  λ f.
+      both-and (fitKeys ys) (everyFit ys)
+      (both-and (not (ltb 1024 (length ys))) (distinctOf (map (λ c. c .key) ys))
+      (not-held (ltb 1024 (length ys)) (le-ltb 1024 (length ys) (f .few)))
+      (distinct-exactly (map (λ c. c .key) ys) .1 (λ i j l m e.
+      key-at ys i ∙ f .keys i j l (rw (length-map ys (λ (c : Call). c .key)) at m) (sym (key-at ys i) ∙ (e ∙ key-at ys j)))))
+      (fit-every ys (f .each)),
+)

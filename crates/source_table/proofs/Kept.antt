@@ -43,29 +43,29 @@ put-fit ys f i c li fc alone =
           (λ n. rw (getD-set-other ys i j c emptied n) (f .each j (rw (length-set ys i c) at m)));
     }
   where
-  same : getD (set ys i c) i emptied ≡ c
-  same = getD-set-same ys i c emptied li
+    same : getD (set ys i c) i emptied ≡ c
+    same = getD-set-same ys i c emptied li
 
-  other : (j : ℕ) → (j ≡ i → ⊥) → getD (set ys i c) j emptied ≡ getD ys j emptied
-  other j n = getD-set-other ys i j c emptied n
+    other : (j : ℕ) → (j ≡ i → ⊥) → getD (set ys i c) j emptied ≡ getD ys j emptied
+    other j n = getD-set-other ys i j c emptied n
 
-  key-of : {a b : Call} → a ≡ b → a .key ≡ b .key
-  key-of e = ap (λ (x : Call). x .key) e
+    key-of : {a b : Call} → a ≡ b → a .key ≡ b .key
+    key-of e = ap (λ (x : Call). x .key) e
 
-  keys : (j k : ℕ) → j < k → k < length ys → getD (set ys i c) j emptied .key ≡ getD (set ys i c) k emptied .key → getD (set ys i c) j emptied .key ≡ 0
-  keys j k l m e =
-      by-equal j i
-      (λ p.
-      let n : k ≡ i → ⊥ = λ q. omega arith in
-      let h : getD (set ys i c) j emptied .key ≡ c .key = key-of (ap (λ (x : ℕ). getD (set ys i c) x emptied) p ∙ same) in
-      h ∙ alone k n m (sym (key-of (other k n)) ∙ (sym e ∙ h)))
-      (λ n.
-      by-equal k i
-      (λ q.
-      let h : getD (set ys i c) k emptied .key ≡ c .key = key-of (ap (λ (x : ℕ). getD (set ys i c) x emptied) q ∙ same) in
-      let lj : j < length ys = omega arith in
-      e ∙ (h ∙ alone j n lj (sym (key-of (other j n)) ∙ (e ∙ h))))
-      (λ o. key-of (other j n) ∙ f .keys j k l m (sym (key-of (other j n)) ∙ (e ∙ key-of (other k o)))))
+    keys : (j k : ℕ) → j < k → k < length ys → getD (set ys i c) j emptied .key ≡ getD (set ys i c) k emptied .key → getD (set ys i c) j emptied .key ≡ 0
+    keys j k l m e =
+        by-equal j i
+        (λ p.
+        let n : k ≡ i → ⊥ = λ q. omega arith in
+        let h : getD (set ys i c) j emptied .key ≡ c .key = key-of (ap (λ (x : ℕ). getD (set ys i c) x emptied) p ∙ same) in
+        h ∙ alone k n m (sym (key-of (other k n)) ∙ (sym e ∙ h)))
+        (λ n.
+        by-equal k i
+        (λ q.
+        let h : getD (set ys i c) k emptied .key ≡ c .key = key-of (ap (λ (x : ℕ). getD (set ys i c) x emptied) q ∙ same) in
+        let lj : j < length ys = omega arith in
+        e ∙ (h ∙ alone j n lj (sym (key-of (other j n)) ∙ (e ∙ h))))
+        (λ o. key-of (other j n) ∙ f .keys j k l m (sym (key-of (other j n)) ∙ (e ∙ key-of (other k o)))))
 
 emptied-fit : FitRecord emptied
 emptied-fit = record { empty = λ k. refl; used = λ n. absurd (n refl) }
@@ -83,33 +83,34 @@ opened-fit key wanted n =
 after-event : (c : Call) (e : Event) → (c .key ≡ 0 → ⊥) → InUse c → FitRecord (eventOf c e .call) × ((eventOf c e .call .key ≡ 0) ⊎ (eventOf c e .call .key ≡ c .key))
 after-event c e n u = by-test (isNull (eventOf c e .call .state)) refl
   where
-  by-test : (b : Bool) → isNull (eventOf c e .call .state) ≡ b → FitRecord (eventOf c e .call) × ((eventOf c e .call .key ≡ 0) ⊎ (eventOf c e .call .key ≡ c .key))
-  by-test true t =
-      let z : eventOf c e .call ≡ emptied = ended-is-emptied c e (eventOf c e) refl (u .live) t in
-      (rw z emptied-fit, inl (ap (λ (x : Call). x .key) z))
-  by-test false t =
-      let k : eventOf c e .call .key ≡ c .key = key-and-services-stay c e (eventOf c e) refl t .0 in
-      let l = last-by-one c e (eventOf c e) refl t in
-      (record {
-        empty = λ q. absurd (n (sym k ∙ q));
-        used = λ q.
-            record {
-              live = t;
-              given = omega (arith, l .0, u .given);
-              held = stays-sound c e (eventOf c e) refl (u .held);
-            };
-      },
-      inr k)
+    by-test : (b : Bool) → isNull (eventOf c e .call .state) ≡ b → FitRecord (eventOf c e .call) × ((eventOf c e .call .key ≡ 0) ⊎ (eventOf c e .call .key ≡ c .key))
+    by-test true t =
+        let z : eventOf c e .call ≡ emptied = ended-is-emptied c e (eventOf c e) refl (u .live) t in
+        (rw z emptied-fit, inl (ap (λ (x : Call). x .key) z))
+    by-test false t =
+        let k : eventOf c e .call .key ≡ c .key = key-and-services-stay c e (eventOf c e) refl t .0 in
+        let l = last-by-one c e (eventOf c e) refl t in (
+          record {
+            empty = λ q. absurd (n (sym k ∙ q));
+            used = λ q.
+                record {
+                  live = t;
+                  given = omega (arith, l .0, u .given);
+                  held = stays-sound c e (eventOf c e) refl (u .held);
+                };
+          },
+          inr k,
+        )
 
 -- two places of a fit table with one key hold 0
 apart : (ys : List Call) → FitTable ys → (i j : ℕ) → i < length ys → j < length ys → (j ≡ i → ⊥) → getD ys j emptied .key ≡ getD ys i emptied .key → getD ys i emptied .key ≡ 0
 apart ys f i j li lj o k = by-order (ltb j i) refl
   where
-  by-order : (b : Bool) → ltb j i ≡ b → getD ys i emptied .key ≡ 0
-  by-order true t = sym k ∙ f .keys j i (ltb-true j i t) li k
-  by-order false t =
-      let g : i < j = omega (arith, ltb-false j i t, o) in
-      f .keys i j g lj (sym k)
+    by-order : (b : Bool) → ltb j i ≡ b → getD ys i emptied .key ≡ 0
+    by-order true t = sym k ∙ f .keys j i (ltb-true j i t) li k
+    by-order false t =
+        let g : i < j = omega (arith, ltb-false j i t, o) in
+        f .keys i j g lj (sym k)
 
 -- what is decided keeps a fit table fit
 abbrev Keeps : List Call → Ran → Type 0
@@ -170,10 +171,13 @@ Lowest ys d =
 lowest-at : (ys : List Call) (key : ℕ) (wanted : Wanted) (free : Found) → first 0 0 ys ≡ free → Lowest ys (openingAt (length ys) free key wanted)
 lowest-at ys key wanted (At i c) p h =
     let a : FoundAt 0 0 i c ys = found-at 0 0 i c ys p in
-    let ip : i ≡ a .place = omega (arith, a .at) in
-    (omega (arith, a .at, a .inside),
-    (ap (λ (x : ℕ). getD ys x emptied .key) ip ∙ (ap (λ (x : Call). x .key) (a .there) ∙ a .named),
-    λ j l. a .before j (omega (arith, a .at))))
+    let ip : i ≡ a .place = omega (arith, a .at) in (
+      omega (arith, a .at, a .inside),
+      (
+        ap (λ (x : ℕ). getD ys x emptied .key) ip ∙ (ap (λ (x : Call). x .key) (a .there) ∙ a .named),
+        λ j l. a .before j (omega (arith, a .at)),
+      ),
+    )
 lowest-at ys key wanted Nothing p h = absurd (omega arith)
 
 lowest-by : (ys : List Call) (key : ℕ) (wanted : Wanted) (found : Found) → Lowest ys (openingBy (length ys) found (first 0 0 ys) key wanted)

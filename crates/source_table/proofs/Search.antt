@@ -33,9 +33,9 @@ unfolding firstFrom
 one-more (At j d) k i c cs = refl
 one-more Nothing k i c cs = by-test (eqb (c .key) k)
   where
-  by-test : (b : Bool) → orFirst (cond b (At i c) Nothing) (first k (i + 1) cs) ≡ cond b (At i c) (first k (i + 1) cs)
-  by-test true = refl
-  by-test false = refl
+    by-test : (b : Bool) → orFirst (cond b (At i c) Nothing) (first k (i + 1) cs) ≡ cond b (At i c) (first k (i + 1) cs)
+    by-test true = refl
+    by-test false = refl
 
 or-nothing : (f : Found) → f ≡ orFirst f Nothing
 or-nothing (At j d) = refl
@@ -80,18 +80,18 @@ pub found-at : (k i j : ℕ) (c : Call) (ys : List Call) → first k i ys ≡ At
 unfolding firstFrom
 found-at k i j c [] p = absurd (never p)
   where
-  never : Nothing ≡ At j c → ⊥
-  never e = let z : _≡_ {A = ℕ} 0 1 = cc in omega arith
+    never : Nothing ≡ At j c → ⊥
+    never e = let z : _≡_ {A = ℕ} 0 1 = cc in omega arith
 found-at k i j c (d ∷ ds) p = by-test (found-at k (i + 1) j c ds) (eqb (d .key) k) refl p
   where
-  by-test : (first k (i + 1) ds ≡ At j c → FoundAt k (i + 1) j c ds) → (b : Bool) → eqb (d .key) k ≡ b → cond b (At i d) (first k (i + 1) ds) ≡ At j c → FoundAt k i j c (d ∷ ds)
-  by-test onward true t q =
-      let jo : i ≡ j = cc in
-      let co : d ≡ c = cc in
-      record { place = 0; at = omega arith; inside = omega arith; there = co; named = ap (λ (x : Call). x .key) (sym co) ∙ eqb-true (d .key) k t; before = λ m l q. omega arith }
-  by-test onward false t q =
-      let r : FoundAt k (i + 1) j c ds = onward q in
-      record { place = suc (r .place); at = omega (arith, r .at); inside = omega (arith, r .inside); there = r .there; named = r .named; before = before-it d ds k (r .place) (eqb-false (d .key) k t) (r .before) }
+    by-test : (first k (i + 1) ds ≡ At j c → FoundAt k (i + 1) j c ds) → (b : Bool) → eqb (d .key) k ≡ b → cond b (At i d) (first k (i + 1) ds) ≡ At j c → FoundAt k i j c (d ∷ ds)
+    by-test onward true t q =
+        let jo : i ≡ j = cc in
+        let co : d ≡ c = cc in
+        record { place = 0; at = omega arith; inside = omega arith; there = co; named = ap (λ (x : Call). x .key) (sym co) ∙ eqb-true (d .key) k t; before = λ m l q. omega arith }
+    by-test onward false t q =
+        let r : FoundAt k (i + 1) j c ds = onward q in
+        record { place = suc (r .place); at = omega (arith, r .at); inside = omega (arith, r .inside); there = r .there; named = r .named; before = before-it d ds k (r .place) (eqb-false (d .key) k t) (r .before) }
 
 -- whether something is found, and what
 abbrev pub isAt : Found → Bool
@@ -107,18 +107,18 @@ unfolding firstFrom
 on-record k i [] = refl
 on-record k i (c ∷ cs) = by-test (on-record k (i + 1) cs) (eqb (c .key) k)
   where
-  by-test : isAt (first k (i + 1) cs) ≡ onRecord k cs → (b : Bool) → isAt (cond b (At i c) (first k (i + 1) cs)) ≡ (b || onRecord k cs)
-  by-test h true = refl
-  by-test h false = h
+    by-test : isAt (first k (i + 1) cs) ≡ onRecord k cs → (b : Bool) → isAt (cond b (At i c) (first k (i + 1) cs)) ≡ (b || onRecord k cs)
+    by-test h true = refl
+    by-test h false = h
 
 pub call-of : (k i : ℕ) (ys : List Call) → callIn (first k i ys) ≡ callOf k ys
 unfolding firstFrom
 call-of k i [] = refl
 call-of k i (c ∷ cs) = by-test (call-of k (i + 1) cs) (eqb (c .key) k)
   where
-  by-test : callIn (first k (i + 1) cs) ≡ callOf k cs → (b : Bool) → callIn (cond b (At i c) (first k (i + 1) cs)) ≡ cond b c (callOf k cs)
-  by-test h true = refl
-  by-test h false = h
+    by-test : callIn (first k (i + 1) cs) ≡ callOf k cs → (b : Bool) → callIn (cond b (At i c) (first k (i + 1) cs)) ≡ cond b c (callOf k cs)
+    by-test h true = refl
+    by-test h false = h
 
 or-true-by : (a : Bool) {b : Bool} → b ≡ true → (a || b) ≡ true
 or-true-by true p = refl
