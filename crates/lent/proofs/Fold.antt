@@ -1,6 +1,6 @@
 -- A reading of a lent slice of records with no search in it, for any record struct (S), argument (B), view (P), and any `start` and `step`:
 --     fn read(t: &[S], a: B) -> P { let mut s = start(a); let mut i = 0; while i < t.len() { let c = t[i]; s = step(s, a, i, c); i += 1; } s }
--- All that the proof knows of the functions that it calls is that each meets its contract. It is `Scan.antt` but for the search.
+-- All that the proof knows of the functions that it calls is that each meets its contract.
 -- Assumes nothing.
 use mathlib.Core.Path.{_≡_, refl, sym, _∙_, ap}
 use Prim.Native.Nat.{ℕ, suc, _+_, _-_, _≤_, _<_, _*_, _^_, zero-le}

@@ -12,13 +12,7 @@ module _ {X F : Type 0} (key : X → ℕ) (hit : ℕ → X → F) (none : F) whe
   firstFrom k i [] = none
   firstFrom k i (c ∷ cs) = cond (eqb (key c) k) (hit i c) (firstFrom k (i + 1) cs)
 
--- A list read from its first, which stands at i: what is known so far, s, is stepped by each element and by what `look` says of it.
-module _ {X F Y : Type 0} (look : X → F) (step : Y → ℕ → X → F → Y) where
-  unfoldable pub foldFrom : ℕ → Y → List X → Y
-  foldFrom i s [] = s
-  foldFrom i s (c ∷ cs) = foldFrom (i + 1) (step s i c (look c)) cs
-
--- The same with nothing looked up.
+-- A list read from its first, which stands at i: what is known so far, s, is stepped by each element.
 module _ {X Y : Type 0} (step : Y → ℕ → X → Y) where
   unfoldable pub readFrom : ℕ → Y → List X → Y
   readFrom i s [] = s

@@ -1,6 +1,6 @@
 -- The claims on one opening or event over a lent row of records: any row, fit or not, any key and any act. `Ran` is what is decided, and `tableOf` the row after it: the
--- two that the contracts of `handle` and `handle64` fix. "01" is the scope document, a demand one of the three in README.md. Proofs: proofs/Claims.antt. Assumes
--- nothing.
+-- two that the contracts of `handle` and `handle64` fix. "01" is the scope document, a demand one of the three in README.md. Proofs: proofs/Fit.antt,
+-- Claims.antt and Kept.antt. Assumes nothing.
 use Prim.Native.Nat.{ℕ, _≤_, _<_}
 use mathlib.Core.Path.{_≡_}
 use mathlib.Core.Bool.{Bool, true, false, not, _||_, cond}

@@ -1,4 +1,5 @@
 -- `source_table::handle` meets its contract: the walk of lent, at this table's record. Assumes nothing.
+use mathlib.Core.Path.{_≡_, refl}
 use contract.Running.{givenOf, tables, tablesOf}
 use denote.Triple.Spec.{tripleOf}
 use denote.Triple.Table.{entered, cited}
@@ -22,6 +23,10 @@ use Rattle.source_table.proofs.handle.Key.{name as #source_table·handl
 use Rattle.source_table.proofs.handle as handle′
 use Rattle.source_table.proofs.handle.Statement as stated
 use Rattle.source_table.proofs.handle.Code as code
+
+-- the code has the walk's shape: a mismatch is told here, in a line
+code-is : code.function ≡ walked.code row key seen flag act done ran ran-at ran-call ran-done 1024 (record { fits = lit< tt }) (lit< tt, lit< tt) seenOf uniqueOf decideOf fitKeys keys-fit (record { survey = survey.name; unique = unique.name; decide = decide.name; put = put.name })
+code-is = refl
 
 pub handle-spec : {M : Type 1} → stated.statement M
 unfolding code.routine tablesOf

@@ -1,5 +1,5 @@
 -- `source_table::handle64` meets its contract: the walk of lent, at this table's record. Assumes nothing.
-use mathlib.Core.Path.{refl, ap}
+use mathlib.Core.Path.{_≡_, refl, ap}
 use lib.Dec.{lit<}
 use mir.Val.{Val, vstruct, vcons, vnil}
 use contract.Running.{givenOf, tables, tablesOf}
@@ -32,6 +32,10 @@ both = record {
   value = λ zs r. ap (λ (v : Val). vstruct (vcons v (vcons (done .val r) vnil))) (walked.av-field row zs);
   is = λ zs r g gr. LL.owes Z.the-type Z′.the-laws (record { table = zs; done = r }) (walked.field-is row 64 zs g, (gr, tt));
 }
+
+-- the code has the walk's shape: a mismatch is told here, in a line
+code-is : code.function ≡ walked.code row act done whole 64 tt (lit< tt, lit< tt) both (λ ys k e. ranOf ys k e .done) tableOf handle.name
+code-is = refl
 
 pub handle64-spec : {M : Type 1} → stated.statement M
 unfolding code.routine tablesOf

@@ -1,4 +1,5 @@
 -- `source_table::handle_fit` meets its contract: the walk of lent, at this table's record. Assumes nothing.
+use mathlib.Core.Path.{_≡_, refl}
 use contract.Running.{givenOf, tables, tablesOf}
 use denote.Triple.Spec.{tripleOf}
 use denote.Triple.Table.{entered, cited}
@@ -15,6 +16,10 @@ use Rattle.source_table.proofs.handle_fit.Key.{name as #source_table·h
 use Rattle.source_table.proofs.handle_fit as handle-fit′
 use Rattle.source_table.proofs.handle_fit.Statement as stated
 use Rattle.source_table.proofs.handle_fit.Code as code
+
+-- the code has the walk's shape: a mismatch is told here, in a line
+code-is : code.function ≡ walked.code row sought act done ran ran-at ran-call ran-done soughtIn decideFitOf (record { scan = look.name; decide = decide-fit.name; put = put.name })
+code-is = refl
 
 pub handle-fit-spec : {M : Type 1} → stated.statement M
 unfolding code.routine tablesOf

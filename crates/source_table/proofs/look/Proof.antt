@@ -1,4 +1,5 @@
 -- `source_table::look` meets its contract: the walk of lent, at this table's record. Assumes nothing.
+use mathlib.Core.Path.{_≡_, refl}
 use contract.Running.{givenOf, tables, tablesOf}
 use denote.Triple.Spec.{tripleOf}
 use denote.Triple.Table.{entered, cited}
@@ -16,6 +17,10 @@ use Rattle.source_table.proofs.look.Key.{name as #source_table·look}
 use Rattle.source_table.proofs.look as look′
 use Rattle.source_table.proofs.look.Statement as stated
 use Rattle.source_table.proofs.look.Code as code
+
+-- the code has the walk's shape: a mismatch is told here, in a line
+code-is : code.function ≡ walked.code row emptied (uint w32) sought soughtAtStart soughtOf (record { start = seek-start.name; step = seek.name })
+code-is = refl
 
 pub look-spec : {M : Type 1} → stated.statement M
 unfolding code.routine tablesOf

@@ -1,4 +1,5 @@
 -- `source_table::put` meets its contract: the walk of lent, at this table's record. Assumes nothing.
+use mathlib.Core.Path.{_≡_, refl}
 use contract.Running.{givenOf, tables, tablesOf}
 use denote.Triple.Spec.{tripleOf}
 use denote.Triple.Table.{entered}
@@ -8,6 +9,10 @@ use Rattle.source_table.proofs.put.Key.{name as #source_table·put}
 use Rattle.source_table.proofs.put as put′
 use Rattle.source_table.proofs.put.Statement as stated
 use Rattle.source_table.proofs.put.Code as code
+
+-- the code has the walk's shape: a mismatch is told here, in a line
+code-is : code.function ≡ walked.code row
+code-is = refl
 
 pub put-spec : {M : Type 1} → stated.statement M
 unfolding code.routine tablesOf

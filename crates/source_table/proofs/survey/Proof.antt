@@ -1,4 +1,5 @@
 -- `source_table::survey` meets its contract: the walk of lent, at this table's record. Assumes nothing.
+use mathlib.Core.Path.{_≡_, refl}
 use contract.Running.{givenOf, tables, tablesOf}
 use denote.Triple.Spec.{tripleOf}
 use denote.Triple.Table.{entered, cited}
@@ -16,6 +17,10 @@ use Rattle.source_table.proofs.survey.Key.{name as #source_table·surve
 use Rattle.source_table.proofs.survey as survey′
 use Rattle.source_table.proofs.survey.Statement as stated
 use Rattle.source_table.proofs.survey.Code as code
+
+-- the code has the walk's shape: a mismatch is told here, in a line
+code-is : code.function ≡ walked.code row key emptied (uint w32) seen startOf stepOf (record { start = start.name; step = step.name })
+code-is = refl
 
 pub survey-spec : {M : Type 1} → stated.statement M
 unfolding code.routine tablesOf
