@@ -1,12 +1,13 @@
 -- The claims on the table (specs/Claims), proved. Assumes nothing.
-use Prim.Native.Nat.{ℕ, _+_, _≤_, _<_}
+use Prim.Native.Nat.{ℕ, zero, suc}
 use native.Mathlib.Omega.{arith}
 use mathlib.Core.Path.{_≡_, refl, sym, ap, _∙_}
-use mathlib.Core.Bool.{Bool, true, false, not, _&&_, cond}
-use mathlib.Core.List.{List, []}
+use mathlib.Core.Bool.{Bool, true, false, not, cond}
+use mathlib.Core.List.{List, [], _∷_}
 use lib.Dec.{eqb}
 use lib.ListN.{length, getD, set, length-set}
-use lib.Seq.{set-out, set-getD, getD-set-other}
+use lib.Seq.{set-out, set-getD}
+use borrow.Author.Tests.{eqb-true, eqb-false}
 use Rattle.signal.specs.declared.Answer.{Answer}
 use Rattle.signal.specs.declared.Answer.the-variants.{TableUnfit, KeyZero, KeyOnRecord, NoEmptyRecord, KeyNotOnRecord}
 use Rattle.signal.specs.declared.Wanted.{Wanted}
@@ -21,16 +22,12 @@ use Rattle.source_table.specs.declared.Act.{Act}
 use Rattle.source_table.specs.declared.Act.the-variants.{Opens, Meets}
 use Rattle.source_table.specs.declared.Found.{Found}
 use Rattle.source_table.specs.declared.Found.the-variants.{At, Nothing}
-use Rattle.source_table.specs.declared.Sought.{Sought}
 use Rattle.source_table.specs.declared.Ran.{Ran}
-use Rattle.source_table.specs.Fit.{fitTable, fitKeys, everyFit}
-use Rattle.source_table.specs.Table.{soughtIn, openingAt, openingBy, meetingAt, actOf, decideFitOf, decideOf, refusedAt, ranOf, tableOf, ranFitOf}
+use Rattle.source_table.specs.Fit.{fitTable}
+use Rattle.source_table.specs.Table.{openingAt, openingBy, meetingAt, actOf, refusedAt, ranOf, tableOf, ranFitOf}
 use Rattle.source_table.specs.Claims as claim
-use Rattle.source_table.proofs.Search.{first, sought-is, seen-is, FoundAt, found-at, isAt, callIn, on-record, call-of, stands-on-record}
-
--- the checked decision, by whether the table is fit
-pub ran-is : (ys : List Call) (key : ℕ) (act : Act) → ranOf ys key act ≡ cond (fitTable ys) (ranFitOf ys key act) (refusedAt (length ys) TableUnfit)
-ran-is ys key act = ap (λ s. decideOf (length ys) s (fitKeys ys) key act) (seen-is ys key)
+use Rattle.source_table.proofs.Search.{first, sought-is, FoundAt, found-at, isAt, callIn, on-record, call-of, stands-on-record}
+use Rattle.source_table.proofs.Stored.{ran-is, either, event-changes-its-call, opening-takes-its-record}
 
 -- what is decided leaves the row and sends nothing
 abbrev pub Untouched : List Call → Ran → Type 0
@@ -68,10 +65,6 @@ act-quiet : (ys : List Call) (key : ℕ) (act : Act) → Quiet ys (actOf (length
 act-quiet ys key (Opens wanted) = opening-by ys (first key 0 ys) (first 0 0 ys) key wanted
 act-quiet ys key (Meets e) = meeting-quiet ys key (first key 0 ys) refl e
 
-pub either : (P : Ran → Type 0) (b : Bool) (a d : Ran) → P a → P d → P (cond b a d)
-either P true a d p q = p
-either P false a d p q = q
-
 fit-quiet : (ys : List Call) (key : ℕ) (act : Act) → Quiet ys (ranFitOf ys key act)
 fit-quiet ys key act =
     rw (sought-is ys key)
@@ -89,12 +82,6 @@ same-ran ys key act fit = sym (ran-is ys key act ∙ ap (λ b. cond b (ranFitOf 
 
 pub fit-needs-no-check : claim.FitNeedsNoCheck
 fit-needs-no-check ys key act fit = (same-ran ys key act fit, ap (λ d. set ys (d .at) (d .call)) (same-ran ys key act fit))
-
-pub others-stay : claim.OthersStay
-others-stay ys key act = (
-  length-set ys (ranOf ys key act .at) (ranOf ys key act .call),
-  λ i other. getD-set-other ys (ranOf ys key act .at) i (ranOf ys key act .call) emptied other,
-)
 
 -- the answer of each kind of act, by what is found
 opening-answer : (n : ℕ) (found free : Found) (key : ℕ) (wanted : Wanted) → answerNumber (openingBy n found free key wanted .done .answer) ≡ cond (isAt found) 103 (cond (not (isAt free)) 104 0)
@@ -124,3 +111,30 @@ answers-in-order ys key act =
 
 pub found-anywhere : claim.FoundAnywhere
 found-anywhere ys i l = stands-on-record (getD ys i emptied .key) i ys l refl
+
+-- a record with another key stays where one is replaced
+replaced-other : (k : ℕ) (d : Call) (ys : List Call) (i : ℕ) → (getD ys i emptied .key ≡ k → ⊥) → getD (claim.replacedFor k d ys) i emptied ≡ getD ys i emptied
+replaced-other k d [] i n = refl
+replaced-other k d (c ∷ cs) i n = by-test (replaced-other k d cs) i n (eqb (c .key) k) refl
+  where
+    by-test : ((i : ℕ) → (getD cs i emptied .key ≡ k → ⊥) → getD (claim.replacedFor k d cs) i emptied ≡ getD cs i emptied) → (i : ℕ) → (getD (c ∷ cs) i emptied .key ≡ k → ⊥) → (b : Bool) → eqb (c .key) k ≡ b → getD (cond b (d ∷ cs) (c ∷ claim.replacedFor k d cs)) i emptied ≡ getD (c ∷ cs) i emptied
+    by-test onward zero n true t = absurd (n (eqb-true (c .key) k t))
+    by-test onward (suc i) n true t = refl
+    by-test onward zero n false t = refl
+    by-test onward (suc i) n false t = onward i n
+
+pub others-stay : claim.OthersStay
+others-stay ys key act = (
+  length-set ys (ranOf ys key act .at) (ranOf ys key act .call),
+  λ i other used. by-answer act i other used (eqb (claim.answered ys key act) 0) refl,
+)
+  where
+    at : ℕ → List Call → Call
+    at i zs = getD zs i emptied
+
+    by-answer : (act : Act) (i : ℕ) → (getD ys i emptied .key ≡ key → ⊥) → (getD ys i emptied .key ≡ 0 → ⊥) → (b : Bool) → eqb (claim.answered ys key act) 0 ≡ b → getD (tableOf ys key act) i emptied ≡ getD ys i emptied
+    by-answer act i other used false t = ap (at i) (refusals-change-nothing ys key act (eqb-false _ 0 t) .0)
+    by-answer (Opens wanted) i other used true t =
+        ap (at i) (opening-takes-its-record ys key wanted (eqb-true _ 0 t) .0) ∙ replaced-other 0 _ ys i used
+    by-answer (Meets e) i other used true t =
+        ap (at i) (event-changes-its-call ys key e (eqb-true _ 0 t) .0) ∙ replaced-other key _ ys i other

@@ -1,10 +1,10 @@
--- A fit table stays fit, and an opening takes the lowest empty record (specs/Claims). Assumes nothing.
-use Prim.Native.Nat.{ℕ, _+_, _≤_, _<_}
+-- A fit table stays fit (specs/Claims). Assumes nothing.
+use Prim.Native.Nat.{ℕ, _<_}
 use native.Mathlib.Omega.{arith}
 use mathlib.Core.Path.{_≡_, refl, sym, ap, _∙_}
-use mathlib.Core.Bool.{Bool, true, false, cond, false≢true, true≢false}
+use mathlib.Core.Bool.{Bool, true, false, cond, true≢false}
 use mathlib.Core.Logic.{_⊎_, inl, inr, ⊎-elim}
-use mathlib.Core.List.{List, []}
+use mathlib.Core.List.{List}
 use lib.Dec.{eqb, ltb}
 use lib.ListN.{length, getD, set, length-set}
 use lib.Seq.{getD-set-same, getD-set-other}
@@ -12,8 +12,6 @@ use borrow.Author.Tests.{eqb-false, ltb-true, ltb-false}
 use Rattle.signal.specs.declared.Answer.{Answer}
 use Rattle.signal.specs.declared.Answer.the-variants.{TableUnfit, KeyZero, KeyOnRecord, NoEmptyRecord, KeyNotOnRecord}
 use Rattle.signal.specs.declared.Wanted.{Wanted}
-use Rattle.signal.specs.Numbers.{answerNumber}
-use Rattle.signal.specs.Counting.{count}
 use Rattle.source_states.specs.declared.Event.{Event}
 use Rattle.source_states.specs.States.{isNull}
 use Rattle.source.specs.declared.Call.{Call}
@@ -26,12 +24,13 @@ use Rattle.source_table.specs.declared.Found.{Found}
 use Rattle.source_table.specs.declared.Found.the-variants.{At, Nothing}
 use Rattle.source_table.specs.declared.Ran.{Ran}
 use Rattle.source_table.specs.Fit.{fitTable}
-use Rattle.source_table.specs.Table.{openingAt, openingBy, meetingAt, actOf, refusedAt, ranOf, tableOf, ranFitOf}
+use Rattle.source_table.specs.Table.{openingAt, openingBy, meetingAt, actOf, refusedAt}
 use Rattle.source_table.specs.Claims as claim
-use Rattle.source_table.specs.Claims.{InUse, FitRecord, FitTable, onRecord}
+use Rattle.source_table.specs.Claims.{InUse, FitRecord, FitTable}
 use Rattle.source_table.proofs.Search.{first, sought-is, FoundAt, found-at, isAt, on-record, stands-on-record}
 use Rattle.source_table.proofs.Fit.{Well, one-well, by-equal}
-use Rattle.source_table.proofs.Claims.{ran-is, past-the-end, either}
+use Rattle.source_table.proofs.Stored.{ran-is, either}
+use Rattle.source_table.proofs.Claims.{past-the-end}
 
 -- a record put into a fit table, with a key that no other place has but 0
 put-fit : (ys : List Call) → FitTable ys → (i : ℕ) (c : Call) → i < length ys → FitRecord c → ((j : ℕ) → (j ≡ i → ⊥) → j < length ys → getD ys j emptied .key ≡ c .key → c .key ≡ 0) → FitTable (set ys i c)
@@ -161,32 +160,3 @@ pub stays-fit : claim.StaysFit
 stays-fit ys key act f =
     rw (ran-is ys key act, sought-is ys key)
     (either (Keeps ys) (fitTable ys) _ _ (by-key ys f key act (eqb key 0) refl) (refusal-keeps ys f TableUnfit))
-
--- an opening that is done
-abbrev Lowest : List Call → Ran → Type 0
-Lowest ys d =
-    answerNumber (d .done .answer) ≡ 0 →
-    (d .at < length ys) × ((getD ys (d .at) emptied .key ≡ 0) × ((i : ℕ) → i < d .at → getD ys i emptied .key ≡ 0 → ⊥))
-
-lowest-at : (ys : List Call) (key : ℕ) (wanted : Wanted) (free : Found) → first 0 0 ys ≡ free → Lowest ys (openingAt (length ys) free key wanted)
-lowest-at ys key wanted (At i c) p h =
-    let a : FoundAt 0 0 i c ys = found-at 0 0 i c ys p in
-    let ip : i ≡ a .place = omega (arith, a .at) in (
-      omega (arith, a .at, a .inside),
-      (
-        ap (λ (x : ℕ). getD ys x emptied .key) ip ∙ (ap (λ (x : Call). x .key) (a .there) ∙ a .named),
-        λ j l. a .before j (omega (arith, a .at)),
-      ),
-    )
-lowest-at ys key wanted Nothing p h = absurd (omega arith)
-
-lowest-by : (ys : List Call) (key : ℕ) (wanted : Wanted) (found : Found) → Lowest ys (openingBy (length ys) found (first 0 0 ys) key wanted)
-lowest-by ys key wanted (At i c) h = absurd (omega arith)
-lowest-by ys key wanted Nothing h = lowest-at ys key wanted (first 0 0 ys) refl h
-
-pub takes-lowest-empty : claim.TakesLowestEmpty
-takes-lowest-empty ys key wanted =
-    rw (ran-is ys key (Opens wanted), sought-is ys key)
-    (either (Lowest ys) (fitTable ys) _ _
-    (either (Lowest ys) (eqb key 0) _ _ (λ h. absurd (omega arith)) (lowest-by ys key wanted (first key 0 ys)))
-    (λ h. absurd (omega arith)))

@@ -3,6 +3,7 @@ pub mod Shape
 pub mod Keys
 pub mod Search
 pub mod Fit
+pub mod Stored
 pub mod Claims
 pub mod Kept
 pub mod Bench

@@ -1,19 +1,20 @@
 -- The claims on one opening or event over a lent row of records: any row, fit or not, any key and any act. `Ran` is what is decided, and `tableOf` the row after it: the
 -- two that the contracts of `handle` and `handle64` fix. "01" is the scope document, a demand one of the three in README.md. Proofs: proofs/Fit.antt,
--- Claims.antt and Kept.antt. Assumes nothing.
+-- Stored.antt, Claims.antt and Kept.antt. Assumes nothing.
 use Prim.Native.Nat.{ℕ, _≤_, _<_}
 use mathlib.Core.Path.{_≡_}
 use mathlib.Core.Bool.{Bool, true, false, not, _||_, cond}
 use mathlib.Core.List.{List, [], _∷_}
 use mathlib.Core.Logic.{_↔_}
 use lib.Dec.{eqb}
-use lib.ListN.{length, getD}
+use lib.ListN.{length, getD, set}
 use Rattle.signal.specs.declared.Wanted.{Wanted}
 use Rattle.signal.specs.Signals.{places}
 use Rattle.signal.specs.Numbers.{answerNumber}
+use Rattle.source_states.specs.declared.Event.{Event}
 use Rattle.source_states.specs.States.{isNull}
 use Rattle.source.specs.declared.Call.{Call}
-use Rattle.source.specs.Record.{emptied}
+use Rattle.source.specs.Record.{emptied, openedFor}
 use Rattle.source.specs.Events.{eventOf}
 use Rattle.source.specs.Claims.{Sound}
 use Rattle.source_table.specs.declared.Act.{Act}
@@ -80,13 +81,6 @@ FitNeedsNoCheck =
     (ys : List Call) (key : ℕ) (act : Act) → fitTable ys ≡ true →
     (ranFitOf ys key act ≡ ranOf ys key act) × (tableFitOf ys key act ≡ tableOf ys key act)
 
--- 01, "The table and its records": no record changes but the one that is decided on; the row stays as long as it was.
-abbrev pub OthersStay : Type 0
-OthersStay =
-    (ys : List Call) (key : ℕ) (act : Act) →
-    (length (tableOf ys key act) ≡ length ys)
-    × ((i : ℕ) → (i ≡ ranOf ys key act .at → ⊥) → getD (tableOf ys key act) i emptied ≡ getD ys i emptied)
-
 -- 01, "Numbers of refusal": checks run in the printed order, and the first that applies is given; 0 exactly when none does. With `FitExactly`, and the claims on
 -- the record for 106 to 108 (source, specs/Claims), each number is given exactly when its words hold and no earlier one's do.
 abbrev pub AnswersInOrder : Type 0
@@ -96,13 +90,40 @@ AnswersInOrder = (ys : List Call) (key : ℕ) (act : Act) → answered ys key ac
 abbrev pub FoundAnywhere : Type 0
 FoundAnywhere = (ys : List Call) (i : ℕ) → i < length ys → onRecord (getD ys i emptied .key) ys ≡ true
 
--- 01, "The table and its records": an opening that is done takes the lowest empty record.
+-- the first record with a key replaced by another, and every other record as it was
+abbrev pub replacedFor : ℕ → Call → List Call → List Call
+replacedFor k d [] = []
+replacedFor k d (c ∷ cs) = cond (eqb (c .key) k) (d ∷ cs) (c ∷ replacedFor k d cs)
+
+-- 01, "The table and its records"; "Numbers of refusal", 0: an event that is done turns the record of its key into what the event makes of that call, leaves
+-- every other record, and sends what that call sends.
+abbrev pub EventChangesItsCall : Type 0
+EventChangesItsCall =
+    (ys : List Call) (key : ℕ) (e : Event) → answered ys key (Meets e) ≡ 0 →
+    (tableOf ys key (Meets e) ≡ replacedFor key (eventOf (callOf key ys) e .call) ys)
+    × (ranOf ys key (Meets e) .done .signals ≡ eventOf (callOf key ys) e .signals)
+
+-- 01, "The table and its records"; "Numbers of refusal", 0: an opening that is done turns the first empty record into the new call under its key, leaves every
+-- other record, and sends what an opening sends.
+abbrev pub OpeningTakesItsRecord : Type 0
+OpeningTakesItsRecord =
+    (ys : List Call) (key : ℕ) (wanted : Wanted) → answered ys key (Opens wanted) ≡ 0 →
+    (tableOf ys key (Opens wanted) ≡ replacedFor 0 (openedFor key wanted .call) ys)
+    × (ranOf ys key (Opens wanted) .done .signals ≡ openedFor key wanted .signals)
+
+-- 01, "The table and its records": the same by places. Where no record below the empty one at i is empty, an opening that is done stores at i, and only there.
 abbrev pub TakesLowestEmpty : Type 0
 TakesLowestEmpty =
     (ys : List Call) (key : ℕ) (wanted : Wanted) → answered ys key (Opens wanted) ≡ 0 →
-    (ranOf ys key (Opens wanted) .at < length ys)
-    × ((getD ys (ranOf ys key (Opens wanted) .at) emptied .key ≡ 0)
-    × ((i : ℕ) → i < ranOf ys key (Opens wanted) .at → getD ys i emptied .key ≡ 0 → ⊥))
+    (i : ℕ) → i < length ys → getD ys i emptied .key ≡ 0 → ((j : ℕ) → j < i → getD ys j emptied .key ≡ 0 → ⊥) →
+    tableOf ys key (Opens wanted) ≡ set ys i (openedFor key wanted .call)
+
+-- 01, "The table and its records": whatever is done, a call under another key stays as it was, at its place; the row stays as long as it was.
+abbrev pub OthersStay : Type 0
+OthersStay =
+    (ys : List Call) (key : ℕ) (act : Act) →
+    (length (tableOf ys key act) ≡ length ys)
+    × ((i : ℕ) → (getD ys i emptied .key ≡ key → ⊥) → (getD ys i emptied .key ≡ 0 → ⊥) → getD (tableOf ys key act) i emptied ≡ getD ys i emptied)
 
 -- Demand 1 and 2: a fit table stays fit under every opening and event.
 abbrev pub StaysFit : Type 0
