@@ -5,7 +5,9 @@ pub mod Put
 pub mod Find
 pub mod Lend
 pub mod Handle
+pub mod ByValue
 pub mod HandleArray
+pub mod HandleFirst
 pub mod Fold
 pub mod Survey
 pub mod Keys

@@ -7,6 +7,7 @@ use denote.Struct.Laws as LL
 use denote.Triple.Spec.{tripleOf}
 use denote.Triple.Table.{entered, cited}
 use Rattle.lent.proofs.Record.{Plain, struct}
+use Rattle.lent.proofs.ByValue.{Both, av-field, field-is}
 use Rattle.lent.proofs.HandleArray as walked
 use Rattle.source_table.specs.Table.{ranOf, tableOf}
 use Rattle.source_table.proofs.Shape.{row, act, done}
@@ -22,15 +23,15 @@ use Rattle.source_table.proofs.handle64.Code as code
 abbrev whole : Plain
 whole = struct (record { type = Z.the-type; laws = Z′.the-laws; copy = Z′.the-copy; plain = Z′.the-plain })
 
-abbrev both : walked.Both row 64 done whole
+abbrev both : Both row 64 done whole
 both = record {
   both = λ zs r. record { table = zs; done = r };
   table = λ z. z .table;
   done = λ z. z .done;
   table-both = λ zs r. refl;
   done-both = λ zs r. refl;
-  value = λ zs r. ap (λ (v : Val). vstruct (vcons v (vcons (done .val r) vnil))) (walked.av-field row zs);
-  is = λ zs r g gr. LL.owes Z.the-type Z′.the-laws (record { table = zs; done = r }) (walked.field-is row 64 zs g, (gr, tt));
+  value = λ zs r. ap (λ (v : Val). vstruct (vcons v (vcons (done .val r) vnil))) (av-field row zs);
+  is = λ zs r g gr. LL.owes Z.the-type Z′.the-laws (record { table = zs; done = r }) (field-is row 64 zs g, (gr, tt));
 }
 
 -- the code has the walk's shape: a mismatch is told here, in a line
