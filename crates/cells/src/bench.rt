@@ -1,10 +1,9 @@
 // The bench run of 01 on one call, a line for each event (docs/CELLS.md, "The bench run").
-use crate::line::Line;
-use crate::line::put_byte;
-use crate::line::put_number;
-use crate::line::put_word;
 use crate::line::write_line;
 use crate::words;
+use lines::put_byte;
+use lines::put_number;
+use lines::put_word;
 use signal::Crankback;
 use signal::ReceivedCause;
 use signal::ReroutingCause;
@@ -77,7 +76,7 @@ fn called(connection: u16, cause: ReceivedCause) -> Event {
 }
 
 impl Run {
-    fn step(self, number: u32, event: Event) -> Run {
+    fn step(self, number: u64, event: Event) -> Run {
         let written = self.written;
         if !written {
             return self;
@@ -90,14 +89,14 @@ impl Run {
     }
 }
 
-fn put_label(line: &mut Line, number: u32) -> usize {
+fn put_label(line: &mut [u8], number: u64) -> usize {
     let mut place = put_byte(line, 0, b'B');
     place = put_number(line, place, number);
     words::put_bar(line, place)
 }
 
 // Ends a step's line with its outcome, and writes it.
-fn finish(line: &mut Line, at: usize, outcome: Outcome) -> Run {
+fn finish(line: &mut [u8], at: usize, outcome: Outcome) -> Run {
     let answer = outcome.answer;
     let call = outcome.call;
     let signals = outcome.signals;
@@ -106,7 +105,7 @@ fn finish(line: &mut Line, at: usize, outcome: Outcome) -> Run {
     place = words::put_bar(line, place);
     place = put_after(line, place, call);
     place = words::put_bar(line, place);
-    place = words::put_signals(line, place, signals);
+    place = signal_words::put_signals(line, place, signals);
     let written = write_line(line, place);
     Run {
         call: call,
@@ -114,15 +113,15 @@ fn finish(line: &mut Line, at: usize, outcome: Outcome) -> Run {
     }
 }
 
-fn put_after(line: &mut Line, at: usize, call: Call) -> usize {
+fn put_after(line: &mut [u8], at: usize, call: Call) -> usize {
     let state = call.state;
     let mut place = put_state(line, at, state);
     place = put_word(line, place, b", ");
-    put_number(line, place, call.remote)
+    put_number(line, place, call.remote as u64)
 }
 
 // The state's name (6.2.3), with what it holds.
-fn put_state(line: &mut Line, at: usize, state: State) -> usize {
+fn put_state(line: &mut [u8], at: usize, state: State) -> usize {
     match state {
         State::Null => put_word(line, at, b"Null"),
         State::Idle(incumbent) => put_one(line, at, b"Rerouting Idle", incumbent),
@@ -143,18 +142,18 @@ fn put_state(line: &mut Line, at: usize, state: State) -> usize {
     }
 }
 
-fn put_one(line: &mut Line, at: usize, name: &[u8], connection: u16) -> usize {
+fn put_one(line: &mut [u8], at: usize, name: &[u8], connection: u16) -> usize {
     let mut place = put_word(line, at, name);
     place = put_word(line, place, b" (");
-    place = put_number(line, place, connection as u32);
+    place = put_number(line, place, connection as u64);
     put_byte(line, place, b')')
 }
 
-fn put_two(line: &mut Line, at: usize, name: &[u8], incumbent: u16, rerouting: u16) -> usize {
+fn put_two(line: &mut [u8], at: usize, name: &[u8], incumbent: u16, rerouting: u16) -> usize {
     let mut place = put_word(line, at, name);
     place = put_word(line, place, b" (");
-    place = put_number(line, place, incumbent as u32);
+    place = put_number(line, place, incumbent as u64);
     place = put_byte(line, place, b',');
-    place = put_number(line, place, rerouting as u32);
+    place = put_number(line, place, rerouting as u64);
     put_byte(line, place, b')')
 }

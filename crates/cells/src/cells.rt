@@ -1,7 +1,6 @@
 // The cells of a state, and the openings, with the values and in the order of docs/CELLS.md.
 //
 // A function that prints answers false as soon as a write fails, and then nothing more is written.
-use crate::line::Line;
 use crate::line::write_line;
 use crate::words;
 use signal::Crankback;
@@ -145,23 +144,23 @@ fn print_called(call: Call, connection: u16, cause: ReceivedCause, crankback: Cr
 
 fn print_cell(call: Call, event: Event) -> bool {
     let mut line = [0u8; 256];
-    let mut place = words::put_call(&mut line, 0, call);
+    let mut place = source_words::put_call(&mut line, 0, call);
     place = words::put_bar(&mut line, place);
     place = words::put_event(&mut line, place, event);
     place = put_outcome(&mut line, place, call.handle(event));
     write_line(&mut line, place)
 }
 
-fn put_outcome(line: &mut Line, at: usize, outcome: Outcome) -> usize {
+fn put_outcome(line: &mut [u8], at: usize, outcome: Outcome) -> usize {
     let answer = outcome.answer;
     let call = outcome.call;
     let signals = outcome.signals;
     let mut place = words::put_bar(line, at);
     place = words::put_answer(line, place, answer);
     place = words::put_bar(line, place);
-    place = words::put_call(line, place, call);
+    place = source_words::put_call(line, place, call);
     place = words::put_bar(line, place);
-    words::put_signals(line, place, signals)
+    signal_words::put_signals(line, place, signals)
 }
 
 pub(crate) fn print_openings() -> bool {

@@ -1,6 +1,6 @@
 // Prints the cells of one call, the openings and the bench run, by the letters that it reads (docs/CELLS.md).
 //
-// The methods of `source::Call` decide every event; the rest is printing. `line` builds a line and writes it, `words` says records, events and signals
+// The methods of `source::Call` decide every event; the rest is printing. `line` builds a line and writes it, `words` says openings and events
 // in words, and `cells` and `bench` go through what a letter names.
 mod bench;
 mod cells;
