@@ -1,0 +1,64 @@
+// Reads cases from standard input, a table and an event each, and prints what becomes of each (docs/TABLES.md).
+//
+// `source_table::handle` decides every case, on exactly as many records as the case has; the rest is reading and printing. `octets` reads a case, `first` lends its
+// records, and `print` says what came of it.
+mod first;
+mod octets;
+mod print;
+
+ghost use Prim.Native.Nat.{_≤_};
+use event_record::Request;
+use libc::STDIN_FILENO;
+
+// A loop has to end, and nothing says that the input does: so the cases are counted, up to a number that no run reaches.
+fn main() {
+    let mut body = io::large_buffer();
+    let mut number: u64 = 1;
+    while number < u64::MAX && answer(number, &mut body) {
+        number += 1;
+    }
+}
+
+// Reads a case, and prints what becomes of it. False where nothing more is to be read: at the end of the input, at a case that is bad, and where a write fails.
+fn answer(number: u64, body: &mut [u8]) -> bool {
+    let mut head = [0u8; 2];
+    let got = io::read_full(STDIN_FILENO, &mut head);
+    if got == 0 {
+        return false;
+    }
+    let count = octets::short(&head, 0) as usize;
+    if got < 2 || 1100 < count {
+        return print::bad();
+    }
+    if !came(body, count * 20 + 16) {
+        return print::bad();
+    }
+    answer_body(number, count, body)
+}
+
+// The rest of a case, whole.
+fn came(body: &mut [u8], size: usize) -> bool {
+    if size <= body.len() {
+        return io::read_full(STDIN_FILENO, &mut body[..size]) == size;
+    }
+    false
+}
+
+fn answer_body(number: u64, count: usize, body: &[u8]) -> bool
+    requires { ⌜ count ≤ 1100 ⌝ }
+{
+    let records = octets::records(body, count);
+    let table = records.table;
+    let event = event_record::decode(octets::event(body, count * 20));
+    if !records.named {
+        return print::bad();
+    }
+    let request = event.request;
+    match request {
+        Request::Bad => print::bad(),
+        Request::Asks(act) => {
+            let held = first::handle_first(table, count, event.key, act);
+            print::table(number, count, held)
+        }
+    }
+}
