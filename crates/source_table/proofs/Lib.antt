@@ -5,5 +5,6 @@ pub mod Search
 pub mod Fit
 pub mod Stored
 pub mod Claims
+pub mod Given
 pub mod Kept
 pub mod Bench

@@ -1,11 +1,11 @@
 -- The claims on one opening or event over a lent row of records: any row, fit or not, any key and any act. `Ran` is what is decided, and `tableOf` the row after it: the
 -- two that the contracts of `handle` and `handle64` fix. "01" is the scope document, a demand one of the three in README.md. Proofs: proofs/Fit.antt,
--- Stored.antt, Claims.antt and Kept.antt. Assumes nothing.
+-- Stored.antt, Claims.antt, Given.antt and Kept.antt. Assumes nothing.
 use Prim.Native.Nat.{ℕ, _≤_, _<_}
 use mathlib.Core.Path.{_≡_}
 use mathlib.Core.Bool.{Bool, true, false, not, _||_, cond}
 use mathlib.Core.List.{List, [], _∷_}
-use mathlib.Core.Logic.{_↔_}
+use mathlib.Core.Logic.{_↔_, _⊎_}
 use lib.Dec.{eqb}
 use lib.ListN.{length, getD, set}
 use Rattle.signal.specs.declared.Wanted.{Wanted}
@@ -16,7 +16,7 @@ use Rattle.source_states.specs.States.{isNull}
 use Rattle.source.specs.declared.Call.{Call}
 use Rattle.source.specs.Record.{emptied, openedFor}
 use Rattle.source.specs.Events.{eventOf}
-use Rattle.source.specs.Claims.{Sound}
+use Rattle.source.specs.Claims.{Sound, IsMeaningless, NamesNotHeld, HasNoNumber}
 use Rattle.source_table.specs.declared.Act.{Act}
 use Rattle.source_table.specs.declared.Act.the-variants.{Opens, Meets}
 use Rattle.source_table.specs.Fit.{fitTable}
@@ -81,10 +81,54 @@ FitNeedsNoCheck =
     (ys : List Call) (key : ℕ) (act : Act) → fitTable ys ≡ true →
     (ranFitOf ys key act ≡ ranOf ys key act) × (tableFitOf ys key act ≡ tableOf ys key act)
 
--- 01, "Numbers of refusal": checks run in the printed order, and the first that applies is given; 0 exactly when none does. With `FitExactly`, and the claims on
--- the record for 106 to 108 (source, specs/Claims), each number is given exactly when its words hold and no earlier one's do.
+-- 01, "Numbers of refusal": checks run in the printed order, and the first that applies is given; 0 exactly when none does. As a computation.
 abbrev pub AnswersInOrder : Type 0
 AnswersInOrder = (ys : List Call) (key : ℕ) (act : Act) → answered ys key act ≡ answerWanted ys key act
+
+-- The same in the document's words: a check, with its number and what must hold for it to apply
+pub record Check : Type 1 where
+  pub number : ℕ
+  pub applies : Type 0
+
+-- a key stands at some place
+abbrev pub Stands : ℕ → List Call → Type 0
+Stands key ys = (i : ℕ) × ((i < length ys) × (getD ys i emptied .key ≡ key))
+
+-- what is asked of an opening alone, and of an event alone
+abbrev pub IfOpening : Act → Type 0 → Type 0
+IfOpening (Opens wanted) P = P
+IfOpening (Meets e) P = ⊥
+
+abbrev pub IfEvent : Act → (Event → Type 0) → Type 0
+IfEvent (Opens wanted) P = ⊥
+IfEvent (Meets e) P = P e
+
+-- 01, "Numbers of refusal", line by line: the table is unfit; the key is 0; an opening's key is on record; no record is empty; an event's key is not on record; the
+-- event means nothing to the call of the key; it names a connection that is not held; no number is left
+abbrev pub checks : List Call → ℕ → Act → List Check
+checks ys key act =
+    record { number = 101; applies = FitTable ys → ⊥ }
+    ∷ record { number = 102; applies = key ≡ 0 }
+    ∷ record { number = 103; applies = IfOpening act (Stands key ys) }
+    ∷ record { number = 104; applies = IfOpening act (Stands 0 ys → ⊥) }
+    ∷ record { number = 105; applies = IfEvent act (λ e. Stands key ys → ⊥) }
+    ∷ record { number = 106; applies = IfEvent act (IsMeaningless (callOf key ys)) }
+    ∷ record { number = 107; applies = IfEvent act (NamesNotHeld (callOf key ys)) }
+    ∷ record { number = 108; applies = IfEvent act (HasNoNumber (callOf key ys)) }
+    ∷ []
+
+-- n is the number of the first check in the list that applies, and 0 where none does
+abbrev pub FirstOf : ℕ → List Check → Type 0
+FirstOf n [] = n ≡ 0
+FirstOf n (c ∷ cs) = (c .applies × (n ≡ c .number)) ⊎ ((c .applies → ⊥) × FirstOf n cs)
+
+-- Demand 1 and 01, "Numbers of refusal": the answer is that number, over any row.
+abbrev pub GivenExactly : Type 0
+GivenExactly = (ys : List Call) (key : ℕ) (act : Act) → FirstOf (answered ys key act) (checks ys key act)
+
+-- And it is the only one: two numbers that are the first of one list are equal, so each is given exactly when its check applies and none before it does.
+abbrev pub FirstIsOne : Type 1
+FirstIsOne = (cs : List Check) (m n : ℕ) → FirstOf m cs → FirstOf n cs → m ≡ n
 
 -- A key is on record wherever it stands.
 abbrev pub FoundAnywhere : Type 0
