@@ -1,4 +1,4 @@
-// The first records of a table by value, lent to the entry that is under test.
+// The records of a case, given to the entries that are under test: 64 of them to the one by value, any other number to the one that they are lent to.
 ghost use Prim.Native.Nat.{_≤_};
 ghost use mathlib.Core.Path.{_≡_};
 ghost use mathlib.Core.List.{_++_};
@@ -14,11 +14,46 @@ pub(crate) struct Held {
     pub(crate) done: Done,
 }
 
-pub(crate) fn handle_first(table: [Call; 1100], count: usize, key: u32, act: Act) -> Held
+fn handle_first(table: [Call; 1100], count: usize, key: u32, act: Act) -> Held
     requires { ⌜ count ≤ 1100 ⌝ }
     ensures { λ r. ⌜ (r .done ≡ ranOf (take count table) key act .done) × (r .table ≡ tableOf (take count table) key act ++ drop count table) ⌝ }
 {
     let mut t = table;
     let done = source_table::handle(&mut t[..count], key, act);
     Held { table: t, done }
+}
+
+pub(crate) fn handle(table: [Call; 1100], count: usize, key: u32, act: Act) -> Held
+    requires { ⌜ count ≤ 1100 ⌝ }
+{
+    if count == 64 {
+        let sixty = source_table::handle64(narrowed(table), key, act);
+        let kept = sixty.table;
+        let done = sixty.done;
+        return Held {
+            table: widened(kept),
+            done,
+        };
+    }
+    handle_first(table, count, key, act)
+}
+
+fn narrowed(table: [Call; 1100]) -> [Call; 64] {
+    let mut sixty = [Call::EMPTY; 64];
+    let mut index: usize = 0;
+    while index < 64 {
+        sixty[index] = table[index];
+        index += 1;
+    }
+    sixty
+}
+
+fn widened(sixty: [Call; 64]) -> [Call; 1100] {
+    let mut table = [Call::EMPTY; 1100];
+    let mut index: usize = 0;
+    while index < 64 {
+        table[index] = sixty[index];
+        index += 1;
+    }
+    table
 }

@@ -1,7 +1,7 @@
 // Reads cases from standard input, a table and an event each, and prints what becomes of each (docs/TABLES.md).
 //
-// `source_table::handle` decides every case, on exactly as many records as the case has; the rest is reading and printing. `octets` reads a case, `first` lends its
-// records, and `print` says what came of it.
+// `source_table::handle` decides every case, on exactly as many records as the case has, and `handle64` those of 64; the rest is reading and printing. `octets` reads a case, `first` gives
+// its records to the entry, and `print` says what came of it.
 mod first;
 mod octets;
 mod print;
@@ -57,7 +57,7 @@ fn answer_body(number: u64, count: usize, body: &[u8]) -> bool
     match request {
         Request::Bad => print::bad(),
         Request::Asks(act) => {
-            let held = first::handle_first(table, count, event.key, act);
+            let held = first::handle(table, count, event.key, act);
             print::table(number, count, held)
         }
     }
