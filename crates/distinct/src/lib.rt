@@ -1,8 +1,8 @@
 // "No number but 0 stands twice", over plain numbers: exact for every list, and near-linear where the numbers are ordinary.
 //
 // The places of each number fall into 1,024 slots, and those of one slot are chained from the last to the first. A new number is looked for along the
-// chain of its slot; where that is longer than 8, among all that came before. So a list made to fall into one slot costs the square of its length, and any
-// other list about its length. It knows nothing of tables.
+// chain of its slot; where that is longer than 8, among all that came before. So a list of which much falls into one slot costs the square of its length, and one that
+// is spread about its length (docs/SPEED.md). It knows nothing of tables.
 ghost use mathlib.Core.Path.{_≡_};
 ghost use mathlib.Core.Bool.{true};
 ghost use Prim.Native.Nat.{ℕ, _<_, _≤_};
