@@ -1,0 +1,18 @@
+-- Insertions that leave the table as it was leave all else (specs/Woven), proved. Assumes nothing.
+use mathlib.Core.Path.{_≡_, refl, sym, _∙_, ap}
+use mathlib.Core.List.{List, [], _∷_}
+use Rattle.runs.specs.Run.{End, Asked, Reply, Control, runOf, after}
+use Rattle.runs.specs.Woven.{Thread, own, inserted, itself, woven, ownReplies, AtInsertions, LeftAlone}
+use Rattle.runs.specs.Woven as claim
+
+pub inert-insertions : (E : End) (C : Control E) → claim.InertInsertions E C
+inert-insertions E C ys [] at = record { replies = refl; table = refl }
+inert-insertions E C ys (own a ∷ more) at =
+    let rest = inert-insertions E C (C ys a .table) more at in
+    record { replies = ap (λ rs. C ys a ∷ rs) (rest .replies); table = rest .table }
+inert-insertions E C ys (inserted a ∷ more) at =
+    let rest = inert-insertions E C (C ys a .table) more (at .1) in
+    record {
+      replies = rest .replies ∙ ap (λ zs. runOf E C zs (itself E more)) (at .0);
+      table = rest .table ∙ ap (λ zs. after E C zs (itself E more)) (at .0);
+    }

@@ -1,0 +1,105 @@
+-- The account of connection numbers over a whole run: what has been given to the call of a key since its opening, and what has been ended. Assumes nothing.
+use Prim.Native.Nat.{ℕ, zero, suc, _+_, _≤_, _<_}
+use mathlib.Core.Path.{_≡_}
+use mathlib.Core.Bool.{Bool, true, false, _&&_, cond}
+use mathlib.Core.List.{List, [], _∷_, _++_}
+use mathlib.Core.Logic.{_⊎_}
+use lib.Dec.{eqb, ltb}
+use lib.ListN.{length, getD}
+use Rattle.signal.specs.Counting.{count, endedSent}
+use Rattle.runs.specs.Keyed.{onRecord, recordOf, replacedFor}
+use Rattle.runs.specs.Run.{End, Does, opens, meets, Asked, Reply, Control, after, emptyTable}
+
+-- since a call's opening: the numbers given to it, and the numbers ended, each as often as it was
+pub record Log : Type 0 where
+  pub given : List ℕ
+  pub ended : List ℕ
+
+abbrev pub nothing : Log
+nothing = record { given = []; ended = [] }
+
+-- the numbers from 1 to n
+abbrev pub oneTo : ℕ → List ℕ
+oneTo zero = []
+oneTo (suc n) = oneTo n ++ (suc n ∷ [])
+
+module _ (E : End) where
+  abbrev pub callOf : ℕ → List (E .Record) → E .Record
+  callOf k ys = recordOf (E .key) (E .empty) k ys
+
+  -- the number that a request gives: the record's last number, where it has grown
+  abbrev pub givenBy : E .Record → E .Record → List ℕ
+  givenBy before now = cond (ltb (E .last before) (E .last now)) (E .last now ∷ []) []
+
+  -- the numbers that a request ends, read off the event and the signals alone: by a release received, and by releases sent
+  abbrev pub endedBy : E .Event → Reply E → List ℕ
+  endedBy e r = E .reported e ++ endedSent (r .signals)
+
+  -- a request that is done enters the log of its key: an opening begins it anew, an event adds to it. A refused one enters nothing
+  abbrev pub entered : Does (E .Wanted) (E .Event) → E .Record → E .Record → Reply E → Log → Log
+  entered (opens w) before now r l = record { given = E .last now ∷ []; ended = [] }
+  entered (meets e) before now r l = record { given = l .given ++ givenBy before now; ended = l .ended ++ endedBy e r }
+
+  abbrev pub noted : ℕ → List (E .Record) → Asked E → Reply E → Log → Log
+  noted k ys a r l = cond (eqb (a .key) k && eqb (r .answer) 0) (entered (a .does) (callOf k ys) (callOf k (r .table)) r l) l
+
+  -- the log of a key along a run
+  abbrev pub logged : Control E → ℕ → List (E .Record) → Log → List (Asked E) → Log
+  logged C k ys l [] = l
+  logged C k ys l (a ∷ more) = logged C k (C ys a .table) (noted k ys a (C ys a) l) more
+
+  -- the account of a call: c is its record, or the empty one where it has ended or was never opened
+  pub record Account (c : E .Record) (l : Log) : Type 0 where
+    -- the numbers given since the opening are 1, 2, 3 and so on, and while the call is on record the last of them is the record's
+    pub numbers : l .given ≡ oneTo (length (l .given))
+    pub recorded : (E .key c ≡ 0 → ⊥) → length (l .given) ≡ E .last c
+    -- each number given has been ended exactly once and is not held, or is held and has not been ended
+    pub accounted : (x : ℕ) → 1 ≤ x → x ≤ length (l .given) →
+        ((count x (l .ended) ≡ 1) × (count x (E .held c) ≡ 0)) ⊎ ((count x (l .ended) ≡ 0) × (count x (E .held c) ≡ 1))
+    -- a call that has ended holds nothing: every number given to it was ended exactly once
+    pub closed : E .key c ≡ 0 → (x : ℕ) → 1 ≤ x → x ≤ length (l .given) → count x (l .ended) ≡ 1
+    -- no other number is held, or has been ended
+    pub others : (x : ℕ) → (x ≡ 0) ⊎ (length (l .given) < x) → (count x (l .ended) ≡ 0) × (count x (E .held c) ≡ 0)
+
+  -- In every run from an empty table, at every point (a run to there is a run), for every key.
+  abbrev pub Accounting : Control E → Type 0
+  Accounting C =
+      (n : ℕ) (requests : List (Asked E)) (k : ℕ) → (k ≡ 0 → ⊥) →
+      Account (callOf k (after E C (emptyTable E n) requests)) (logged C k (emptyTable E n) nothing requests)
+
+  -- What one request must do for that, over any table: the laws that an end shows of its own control
+  pub record Opened (ys : List (E .Record)) (k : ℕ) (r : Reply E) : Type 0 where
+    pub call : E .Record
+    pub sound : E .key call ≡ k
+    pub free : onRecord (E .key) 0 ys ≡ true
+    pub new : onRecord (E .key) k ys ≡ false
+    pub stored : r .table ≡ replacedFor (E .key) 0 call ys
+    pub first : E .last call ≡ 1
+    pub holds : E .held call ≡ 1 ∷ []
+
+  -- the call lives, and its last number stays or grows by one; or its record is emptied
+  abbrev pub Lives : ℕ → E .Record → E .Record → Type 0
+  Lives k before now = ((E .key now ≡ k) × ((E .last now ≡ E .last before) ⊎ (E .last now ≡ suc (E .last before)))) ⊎ (now ≡ E .empty)
+
+  pub record Met (ys : List (E .Record)) (k : ℕ) (e : E .Event) (r : Reply E) : Type 0 where
+    pub call : E .Record
+    pub known : onRecord (E .key) k ys ≡ true
+    pub stored : r .table ≡ replacedFor (E .key) k call ys
+    pub lives : Lives k (callOf k ys) call
+    pub balances : (x : ℕ) →
+        count x (E .held (callOf k ys)) + count x (givenBy (callOf k ys) call) ≡ count x (E .held call) + count x (endedBy e r)
+
+  pub record Lawful (C : Control E) : Type 0 where
+    pub unused : E .key (E .empty) ≡ 0
+    pub spent : E .last (E .empty) ≡ 0
+    pub nothing-held : E .held (E .empty) ≡ []
+    pub refused : (ys : List (E .Record)) (a : Asked E) → (C ys a .answer ≡ 0 → ⊥) → C ys a .table ≡ ys
+    pub named : (ys : List (E .Record)) (a : Asked E) → C ys a .answer ≡ 0 → a .key ≡ 0 → ⊥
+    pub apart : (ys : List (E .Record)) (a : Asked E) → C ys a .answer ≡ 0 → (i j : ℕ) → i < j → j < length ys →
+        E .key (getD ys i (E .empty)) ≡ E .key (getD ys j (E .empty)) → E .key (getD ys i (E .empty)) ≡ 0
+    pub opened : (ys : List (E .Record)) (k : ℕ) (w : E .Wanted) → C ys (record { key = k; does = opens w }) .answer ≡ 0 → Opened ys k (C ys (record { key = k; does = opens w }))
+    pub met : (ys : List (E .Record)) (k : ℕ) (e : E .Event) → C ys (record { key = k; does = meets e }) .answer ≡ 0 → Met ys k e (C ys (record { key = k; does = meets e }))
+
+  -- Any control with these laws keeps the account.
+  abbrev pub LawsKeepAccount : Type 0
+  LawsKeepAccount = (C : Control E) → Lawful C → Accounting C
