@@ -1,0 +1,151 @@
+-- The laws that the account asks of an end (runs, specs/Account), of the source node's. Assumes nothing.
+use Prim.Native.Nat.{ℕ, zero, suc, _+_, _≤_, _<_, zero-le, suc-le-suc}
+use native.Mathlib.Omega.{arith}
+use mathlib.Core.Path.{_≡_, refl, sym, _∙_, ap, subst}
+use mathlib.Core.Bool.{Bool, true, false, not, _||_, cond, true≢false, false≢true}
+use mathlib.Core.List.{List, [], _∷_, _++_}
+use mathlib.Core.Logic.{_⊎_, inl, inr}
+use lib.Dec.{eqb}
+use lib.ListN.{length, getD}
+use borrow.Author.Tests.{eqb-true, eqb-false, eq-eqb, not-true, not-false}
+use Rattle.signal.specs.declared.Wanted.{Wanted}
+use Rattle.signal.specs.Numbers.{answerNumber}
+use Rattle.signal.specs.Counting.{count, endedSent}
+use Rattle.source_states.specs.Checks.{reported}
+use Rattle.source.specs.Claims.{endedReceived}
+use Rattle.source_states.specs.declared.Event.{Event}
+use Rattle.source_states.specs.States.{isNull, heldIn}
+use Rattle.source.specs.declared.Call.{Call}
+use Rattle.source.specs.Record.{emptied, openedFor}
+use Rattle.source.specs.Events.{eventOf}
+use Rattle.source.proofs.Claims.{key-and-services-stay, ended-is-emptied, last-by-one, balances}
+use Rattle.source_table.specs.declared.Act.{Act}
+use Rattle.source_table.specs.declared.Act.the-variants.{Opens, Meets}
+use Rattle.source_table.specs.Fit.{fitTable}
+use Rattle.source_table.specs.Claims as table
+use Rattle.source_table.proofs.Fit.{fit-exactly}
+use Rattle.source_table.proofs.Stored.{event-changes-its-call, opening-takes-its-record}
+use Rattle.source_table.proofs.Claims.{refusals-change-nothing, answers-in-order}
+use Rattle.runs.specs.Keyed.{onRecord, replacedFor}
+use Rattle.runs.proofs.Keyed.{has-key}
+use Rattle.runs.specs.Run.{opens, meets, Asked, Reply}
+use Rattle.runs.specs.Account.{callOf, givenBy, endedBy, Opened, Met, Lives, Lawful}
+use Rattle.promises.specs.Source.{source, ours, actOf}
+
+-- ---- the table's words are the words of any table with keys
+pub same-on : (k : ℕ) (ys : List Call) → table.onRecord k ys ≡ onRecord (source .key) k ys
+same-on k [] = refl
+same-on k (c ∷ cs) = ap (λ t. eqb (c .key) k || t) (same-on k cs)
+
+pub same-call : (k : ℕ) (ys : List Call) → table.callOf k ys ≡ callOf source k ys
+same-call k [] = refl
+same-call k (c ∷ cs) = ap (λ t. cond (eqb (c .key) k) c t) (same-call k cs)
+
+pub same-replaced : (k : ℕ) (d : Call) (ys : List Call) → table.replacedFor k d ys ≡ replacedFor (source .key) k d ys
+same-replaced k d [] = refl
+same-replaced k d (c ∷ cs) = ap (λ t. cond (eqb (c .key) k) (d ∷ cs) (c ∷ t)) (same-replaced k d cs)
+
+-- ---- what an answer 0 says: the table is fit, the key is not 0, and the key stands or does not
+pub done-fit : (ys : List Call) (key : ℕ) (act : Act) → table.answered ys key act ≡ 0 → (fitTable ys ≡ true) × ((eqb key 0 ≡ false) × (table.answerFor ys key act ≡ 0))
+done-fit ys key act done = by-tests (fitTable ys) (eqb key 0) refl refl (sym (answers-in-order ys key act) ∙ done)
+  where
+    by-tests : (fit nought : Bool) → fitTable ys ≡ fit → eqb key 0 ≡ nought → cond fit (cond nought 102 (table.answerFor ys key act)) 101 ≡ 0 →
+        (fitTable ys ≡ true) × ((eqb key 0 ≡ false) × (table.answerFor ys key act ≡ 0))
+    by-tests true false f n e = (f, (n, e))
+    by-tests true true f n e = absurd (omega arith)
+    by-tests false nought f n e = absurd (omega arith)
+
+-- what holds of each record holds of the one of a key that stands
+each-of : (P : Call → Type 0) (k : ℕ) (ys : List Call) → ((i : ℕ) → i < length ys → P (getD ys i emptied)) → table.onRecord k ys ≡ true → P (table.callOf k ys)
+each-of P k [] each h = absurd (false≢true h)
+each-of P k (c ∷ cs) each h = by-test (eqb (c .key) k) h (each-of P k cs (λ i l. each (suc i) (suc-le-suc l)))
+  where
+    by-test : (b : Bool) → (b || table.onRecord k cs) ≡ true → (table.onRecord k cs ≡ true → P (table.callOf k cs)) → P (cond b c (table.callOf k cs))
+    by-test true t rest = each 0 (suc-le-suc zero-le)
+    by-test false t rest = rest t
+
+key-of : (k : ℕ) (ys : List Call) → table.onRecord k ys ≡ true → table.callOf k ys .key ≡ k
+key-of k ys h = ap (λ c. c .key) (same-call k ys) ∙ has-key (source .key) emptied k ys (sym (same-on k ys) ∙ h)
+
+-- the call of a key that stands in a fit table is in use
+pub live-of : (k : ℕ) (ys : List Call) → (k ≡ 0 → ⊥) → fitTable ys ≡ true → table.onRecord k ys ≡ true → isNull (table.callOf k ys .state) ≡ false
+live-of k ys named fit h =
+    each-of table.FitRecord k ys (fit-exactly ys .0 fit .each) h .used (λ nought. named (sym (key-of k ys h) ∙ nought)) .live
+
+-- ---- openings
+pub opening-law : (ys : List Call) (k : ℕ) (w : Wanted) → table.answered ys k (Opens w) ≡ 0 → Opened source ys k (ours ys (record { key = k; does = opens w }))
+opening-law ys k w done =
+    let found = by-tests (table.onRecord k ys) (table.onRecord 0 ys) refl refl (done-fit ys k (Opens w) done .1 .1) in
+    record {
+      call = openedFor k w .call;
+      sound = refl;
+      free = sym (same-on 0 ys) ∙ found .1;
+      new = sym (same-on k ys) ∙ found .0;
+      stored = opening-takes-its-record ys k w done .0 ∙ same-replaced 0 (openedFor k w .call) ys;
+      first = refl;
+      holds = refl;
+    }
+  where
+    by-tests : (here free : Bool) → table.onRecord k ys ≡ here → table.onRecord 0 ys ≡ free → _≡_ {A = ℕ} (cond here 103 (cond (not free) 104 0)) 0 →
+        (table.onRecord k ys ≡ false) × (table.onRecord 0 ys ≡ true)
+    by-tests false true h f e = (h, f)
+    by-tests false false h f e = absurd (omega arith)
+    by-tests true free h f e = absurd (omega arith)
+
+-- ---- events
+standing : (ys : List Call) (k : ℕ) (e : Event) → table.answerFor ys k (Meets e) ≡ 0 → (table.onRecord k ys ≡ true) × (answerNumber (eventOf (table.callOf k ys) e .answer) ≡ 0)
+standing ys k e done = by-test (table.onRecord k ys) refl done
+  where
+    by-test : (here : Bool) → table.onRecord k ys ≡ here → cond (not here) 105 (answerNumber (eventOf (table.callOf k ys) e .answer)) ≡ 0 →
+        (table.onRecord k ys ≡ true) × (answerNumber (eventOf (table.callOf k ys) e .answer) ≡ 0)
+    by-test true h d = (h, d)
+    by-test false h d = absurd (omega arith)
+
+-- the call lives, with its last number or the next; or its record is emptied
+lives-on : (k : ℕ) (c : Call) (e : Event) → c .key ≡ k → isNull (c .state) ≡ false → Lives source k c (eventOf c e .call)
+lives-on k c e own live = by-state (isNull (eventOf c e .call .state)) refl
+  where
+    grows : (m n : ℕ) → n ≤ 1 → m ≡ c .last + n → (m ≡ c .last) ⊎ (m ≡ suc (c .last))
+    grows m zero l p = inl (omega arith)
+    grows m (suc n) l p = inr (omega arith)
+
+    by-state : (b : Bool) → isNull (eventOf c e .call .state) ≡ b → Lives source k c (eventOf c e .call)
+    by-state false h = let last = last-by-one c e _ refl h in inl (key-and-services-stay c e _ refl h .0 ∙ own, grows _ _ (last .1) (last .0))
+    by-state true h = inr (ended-is-emptied c e _ refl live h)
+
+-- the balance, where the event is not refused
+balanced : (c : Call) (e : Event) → answerNumber (eventOf c e .answer) ≡ 0 → (x : ℕ) →
+    count x (heldIn (c .state)) + count x (givenBy source c (eventOf c e .call)) ≡ count x (heldIn (eventOf c e .call .state)) + count x (reported e ++ endedSent (eventOf c e .signals))
+balanced c e done x =
+    balances c e _ refl x
+    ∙ ap (λ n. count x (heldIn (eventOf c e .call .state)) + count x (endedReceived n (reported e) ++ endedSent (eventOf c e .signals))) done
+
+pub event-law : (ys : List Call) (k : ℕ) (e : Event) → table.answered ys k (Meets e) ≡ 0 → Met source ys k e (ours ys (record { key = k; does = meets e }))
+event-law ys k e done =
+    let fit = done-fit ys k (Meets e) done in
+    let here = standing ys k e (fit .1 .1) in
+    let changed = event-changes-its-call ys k e done in
+    let call = eventOf (table.callOf k ys) e .call in
+    record {
+      call = call;
+      known = sym (same-on k ys) ∙ here .0;
+      stored = changed .0 ∙ same-replaced k call ys;
+      lives = subst (λ c. Lives source k c call) (same-call k ys) (lives-on k (table.callOf k ys) e (key-of k ys (here .0)) (live-of k ys (eqb-false k 0 (fit .1 .0)) (fit .0) (here .0)));
+      balances = λ x.
+          subst (λ c. count x (heldIn (c .state)) + count x (givenBy source c call) ≡ count x (heldIn (call .state)) + count x (endedBy source e (ours ys (record { key = k; does = meets e })))) (same-call k ys)
+          (balanced (table.callOf k ys) e (here .1) x ∙ ap (λ ss. count x (heldIn (call .state)) + count x (reported e ++ endedSent ss)) (sym (changed .1)));
+    }
+
+-- ---- all of them
+pub lawful : Lawful source ours
+lawful =
+    record {
+      unused = refl;
+      spent = refl;
+      nothing-held = refl;
+      refused = λ ys a h. refusals-change-nothing ys (a .key) (actOf (a .does)) h .0;
+      named = λ ys a done. eqb-false (a .key) 0 (done-fit ys (a .key) (actOf (a .does)) done .1 .0);
+      apart = λ ys a done. fit-exactly ys .0 (done-fit ys (a .key) (actOf (a .does)) done .0) .keys;
+      opened = opening-law;
+      met = event-law;
+    }
