@@ -2,23 +2,26 @@
 use Prim.Native.Nat.{ℕ, zero, suc, _+_, _≤_, _<_, zero-le, suc-le-suc}
 use native.Mathlib.Omega.{arith}
 use mathlib.Core.Path.{_≡_, refl, sym, _∙_, ap, subst}
-use mathlib.Core.Bool.{Bool, true, false, not, _||_, cond, true≢false, false≢true}
+use mathlib.Core.Bool.{Bool, true, false, not, _||_, cond, false≢true}
 use mathlib.Core.List.{List, [], _∷_, _++_}
 use mathlib.Core.Logic.{_⊎_, inl, inr}
-use lib.Dec.{eqb}
+use lib.Dec.{eqb, ltb}
 use lib.ListN.{length, getD}
-use borrow.Author.Tests.{eqb-true, eqb-false, eq-eqb, not-true, not-false}
+use borrow.Author.Tests.{eqb-false, lt-ltb}
+use Rattle.signal.specs.declared.Signal.{Signal}
 use Rattle.signal.specs.declared.Wanted.{Wanted}
 use Rattle.signal.specs.Numbers.{answerNumber}
-use Rattle.signal.specs.Counting.{count, endedSent}
-use Rattle.source_states.specs.Checks.{reported}
+use Rattle.signal.specs.declared.Kind.the-variants.{SetupRequest}
+use Rattle.signal.specs.Counting.{one, count, endedSent, named, ofKind}
+use Rattle.signal.proofs.Counting.{one-other}
+use Rattle.source_states.specs.Checks.{AllAre, reported}
 use Rattle.source.specs.Claims.{endedReceived}
 use Rattle.source_states.specs.declared.Event.{Event}
 use Rattle.source_states.specs.States.{isNull, heldIn}
 use Rattle.source.specs.declared.Call.{Call}
 use Rattle.source.specs.Record.{emptied, openedFor}
 use Rattle.source.specs.Events.{eventOf}
-use Rattle.source.proofs.Claims.{key-and-services-stay, ended-is-emptied, last-by-one, balances}
+use Rattle.source.proofs.Claims.{key-and-services-stay, ended-is-emptied, last-by-one, balances, signals-name-their-own}
 use Rattle.source_table.specs.declared.Act.{Act}
 use Rattle.source_table.specs.declared.Act.the-variants.{Opens, Meets}
 use Rattle.source_table.specs.Fit.{fitTable}
@@ -26,24 +29,10 @@ use Rattle.source_table.specs.Claims as table
 use Rattle.source_table.proofs.Fit.{fit-exactly}
 use Rattle.source_table.proofs.Stored.{event-changes-its-call, opening-takes-its-record}
 use Rattle.source_table.proofs.Claims.{refusals-change-nothing, answers-in-order}
-use Rattle.runs.specs.Keyed.{onRecord, replacedFor}
 use Rattle.runs.proofs.Keyed.{has-key}
-use Rattle.runs.specs.Run.{opens, meets, Asked, Reply}
-use Rattle.runs.specs.Account.{callOf, givenBy, endedBy, Opened, Met, Lives, Lawful}
+use Rattle.runs.specs.Run.{opens, meets}
+use Rattle.runs.specs.Account.{givenBy, Opened, Met, Lives, Lawful}
 use Rattle.promises.specs.Source.{source, ours, actOf}
-
--- ---- the table's words are the words of any table with keys
-pub same-on : (k : ℕ) (ys : List Call) → table.onRecord k ys ≡ onRecord (source .key) k ys
-same-on k [] = refl
-same-on k (c ∷ cs) = ap (λ t. eqb (c .key) k || t) (same-on k cs)
-
-pub same-call : (k : ℕ) (ys : List Call) → table.callOf k ys ≡ callOf source k ys
-same-call k [] = refl
-same-call k (c ∷ cs) = ap (λ t. cond (eqb (c .key) k) c t) (same-call k cs)
-
-pub same-replaced : (k : ℕ) (d : Call) (ys : List Call) → table.replacedFor k d ys ≡ replacedFor (source .key) k d ys
-same-replaced k d [] = refl
-same-replaced k d (c ∷ cs) = ap (λ t. cond (eqb (c .key) k) (d ∷ cs) (c ∷ t)) (same-replaced k d cs)
 
 -- ---- what an answer 0 says: the table is fit, the key is not 0, and the key stands or does not
 pub done-fit : (ys : List Call) (key : ℕ) (act : Act) → table.answered ys key act ≡ 0 → (fitTable ys ≡ true) × ((eqb key 0 ≡ false) × (table.answerFor ys key act ≡ 0))
@@ -65,7 +54,7 @@ each-of P k (c ∷ cs) each h = by-test (eqb (c .key) k) h (each-of P k cs (λ i
     by-test false t rest = rest t
 
 key-of : (k : ℕ) (ys : List Call) → table.onRecord k ys ≡ true → table.callOf k ys .key ≡ k
-key-of k ys h = ap (λ c. c .key) (same-call k ys) ∙ has-key (source .key) emptied k ys (sym (same-on k ys) ∙ h)
+key-of k ys h = has-key (source .key) emptied k ys h
 
 -- the call of a key that stands in a fit table is in use
 pub live-of : (k : ℕ) (ys : List Call) → (k ≡ 0 → ⊥) → fitTable ys ≡ true → table.onRecord k ys ≡ true → isNull (table.callOf k ys .state) ≡ false
@@ -78,12 +67,13 @@ opening-law ys k w done =
     let found = by-tests (table.onRecord k ys) (table.onRecord 0 ys) refl refl (done-fit ys k (Opens w) done .1 .1) in
     record {
       call = openedFor k w .call;
-      sound = refl;
-      free = sym (same-on 0 ys) ∙ found .1;
-      new = sym (same-on k ys) ∙ found .0;
-      stored = opening-takes-its-record ys k w done .0 ∙ same-replaced 0 (openedFor k w .call) ys;
+      own = refl;
+      free = found .1;
+      new = found .0;
+      stored = opening-takes-its-record ys k w done .0;
       first = refl;
       holds = refl;
+      quiet = opening-takes-its-record ys k w done .1;
     }
   where
     by-tests : (here free : Bool) → table.onRecord k ys ≡ here → table.onRecord 0 ys ≡ free → _≡_ {A = ℕ} (cond here 103 (cond (not free) 104 0)) 0 →
@@ -120,20 +110,59 @@ balanced c e done x =
     balances c e _ refl x
     ∙ ap (λ n. count x (heldIn (eventOf c e .call .state)) + count x (endedReceived n (reported e) ++ endedSent (eventOf c e .signals))) done
 
+-- a setup that is sent names the number that is given
+length-named : (ss : List Signal) → length (named ss) ≡ length ss
+length-named [] = refl
+length-named (s ∷ ss) = ap suc (length-named ss)
+
+never-nought : (x : ℕ) (ns : List ℕ) → 1 ≤ x → AllAre 0 ns → count x ns ≡ 0
+never-nought x [] positive h = refl
+never-nought x (n ∷ ns) positive h =
+    let nought : n ≡ 0 = h .0 in
+    let other : one x n ≡ 0 = one-other x n (λ s. omega arith) in
+    omega (arith, never-nought x ns positive (h .1))
+
+at-most-one : (x last now m : ℕ) (ns : List ℕ) → AllAre now ns → length ns ≤ m → m ≤ 1 → now ≡ last + m → count x ns ≤ count x (cond (ltb last now) (now ∷ []) [])
+at-most-one x last now m [] own few one′ grown = zero-le
+at-most-one x last now m (n ∷ []) own few one′ grown =
+    let same : count x (n ∷ []) ≡ count x (now ∷ []) = ap (λ k. count x (k ∷ [])) (own .0) in
+    rw (lt-ltb last now (omega arith)) (omega arith)
+at-most-one x last now m (n ∷ (k ∷ ns)) own few one′ grown = absurd (omega arith)
+
+asked-for : (c : Call) (e : Event) → isNull (c .state) ≡ false → (x : ℕ) → 1 ≤ x →
+    count x (named (ofKind SetupRequest (eventOf c e .signals))) ≤ count x (givenBy source c (eventOf c e .call))
+asked-for c e live x positive = by-state (isNull (eventOf c e .call .state)) refl
+  where
+    sent : List Signal
+    sent = ofKind SetupRequest (eventOf c e .signals)
+
+    own : AllAre (eventOf c e .call .last) (named sent)
+    own = signals-name-their-own c e _ refl .1 .1 .1
+
+    by-state : (b : Bool) → isNull (eventOf c e .call .state) ≡ b → count x (named sent) ≤ count x (givenBy source c (eventOf c e .call))
+    by-state false h =
+        let last = last-by-one c e _ refl h in
+        at-most-one x (c .last) (eventOf c e .call .last) _ (named sent) own (omega (arith, length-named sent)) (last .1) (last .0)
+    by-state true h =
+        let none = never-nought x (named sent) positive (subst (λ n. AllAre n (named sent)) (ap (λ d. d .last) (ended-is-emptied c e _ refl live h)) own) in
+        omega arith
+
 pub event-law : (ys : List Call) (k : ℕ) (e : Event) → table.answered ys k (Meets e) ≡ 0 → Met source ys k e (ours ys (record { key = k; does = meets e }))
 event-law ys k e done =
     let fit = done-fit ys k (Meets e) done in
     let here = standing ys k e (fit .1 .1) in
     let changed = event-changes-its-call ys k e done in
-    let call = eventOf (table.callOf k ys) e .call in
+    let c = table.callOf k ys in
+    let live = live-of k ys (eqb-false k 0 (fit .1 .0)) (fit .0) (here .0) in
     record {
-      call = call;
-      known = sym (same-on k ys) ∙ here .0;
-      stored = changed .0 ∙ same-replaced k call ys;
-      lives = subst (λ c. Lives source k c call) (same-call k ys) (lives-on k (table.callOf k ys) e (key-of k ys (here .0)) (live-of k ys (eqb-false k 0 (fit .1 .0)) (fit .0) (here .0)));
+      call = eventOf c e .call;
+      known = here .0;
+      stored = changed .0;
+      lives = lives-on k c e (key-of k ys (here .0)) live;
       balances = λ x.
-          subst (λ c. count x (heldIn (c .state)) + count x (givenBy source c call) ≡ count x (heldIn (call .state)) + count x (endedBy source e (ours ys (record { key = k; does = meets e })))) (same-call k ys)
-          (balanced (table.callOf k ys) e (here .1) x ∙ ap (λ ss. count x (heldIn (call .state)) + count x (reported e ++ endedSent ss)) (sym (changed .1)));
+          balanced c e (here .1) x ∙ ap (λ ss. count x (heldIn (eventOf c e .call .state)) + count x (reported e ++ endedSent ss)) (sym (changed .1));
+      asks = λ x positive.
+          subst (λ ss. count x (named (ofKind SetupRequest ss)) ≤ count x (givenBy source c (eventOf c e .call))) (sym (changed .1)) (asked-for c e live x positive);
     }
 
 -- ---- all of them
@@ -143,9 +172,9 @@ lawful =
       unused = refl;
       spent = refl;
       nothing-held = refl;
-      refused = λ ys a h. refusals-change-nothing ys (a .key) (actOf (a .does)) h .0;
-      named = λ ys a done. eqb-false (a .key) 0 (done-fit ys (a .key) (actOf (a .does)) done .1 .0);
-      apart = λ ys a done. fit-exactly ys .0 (done-fit ys (a .key) (actOf (a .does)) done .0) .keys;
+      nothing-released = refl;
+      nothing-requested = refl;
+      refused = λ ys a h. refusals-change-nothing ys (a .key) (actOf (a .does)) h;
       opened = opening-law;
       met = event-law;
     }

@@ -1,3 +1,4 @@
 pub mod Laws
+pub mod Rejected
 pub mod Claims
 pub mod ShutOut

@@ -2,32 +2,21 @@
 use Prim.Native.Nat.{ℕ}
 use native.Mathlib.Omega.{arith}
 use mathlib.Core.Path.{_≡_, refl, sym, _∙_, ap}
-use mathlib.Core.Bool.{true}
 use mathlib.Core.List.{List, [], _∷_}
 use lib.ListN.{length, getD}
 use Rattle.distinct.specs.Distinct.{has, distinctOf}
 use Rattle.lent.specs.Search.{readFrom}
 use Rattle.signal.specs.declared.Signal.{Signal}
-use Rattle.signal.specs.declared.Soft.the-variants.{Symmetric}
-use Rattle.signal.specs.declared.Wanted.the-variants.{Unnamed}
 use Rattle.signal.specs.Counting.{kindNumber}
 use Rattle.signal.specs.Signals.{none}
-use Rattle.source_states.specs.declared.State.the-variants.{SoftInitiated}
-use Rattle.source_states.specs.declared.Event.the-variants.{Ready}
 use Rattle.source.specs.declared.Call.{Call}
 use Rattle.source.specs.Record.{emptied}
-use Rattle.source_table.specs.Claims.{checks}
-use Rattle.source_table.proofs.Given.{first-is-one}
-use Rattle.runs.specs.Run.{opens, meets, Asked, Reply, Control, emptyTable}
+use Rattle.runs.specs.Run.{emptyTable}
 use Rattle.runs.specs.Account.{nothing, oneTo, logged}
-use Rattle.promises.specs.Source.{source, ours, actOf}
-use Rattle.promises.specs.Claims as claim
-use Rattle.promises.specs.ShutOut.{refusing, constant, untouching, movingNumbers, inventing}
-use Rattle.promises.proofs.Claims.{answers-exactly}
-
--- an opening of key 7, over no record and over an empty one
-abbrev opening : Asked source
-opening = record { key = 7; does = opens Unnamed }
+use Rattle.promises.specs.Source.{source, ours}
+use Rattle.promises.specs.ShutOut as claim
+use Rattle.promises.specs.ShutOut.{opening, initiated, ready, refusing, constant, movingNumbers, inventing}
+use Rattle.promises.proofs.Claims.{answers-exactly, as-answered}
 
 opens-in-one : ours (emptyTable source 1) opening .answer ≡ 0
 unfolding readFrom has distinctOf
@@ -37,52 +26,44 @@ opens-in-none : ours (emptyTable source 0) opening .answer ≡ 104
 unfolding readFrom has distinctOf
 opens-in-none = refl
 
--- a control that answers exactly answers as ours does
-as-ours : (C : Control source) → claim.AnswersExactly C → (ys : List Call) (a : Asked source) → C ys a .answer ≡ ours ys a .answer
-as-ours C h ys a = first-is-one (checks ys (a .key) (actOf (a .does))) _ _ (h ys a) (answers-exactly ys a)
+-- That opening is to be done, and a control that refuses everything refuses it.
+pub refusing-is-shut-out : claim.RefusingIsShutOut
+refusing-is-shut-out number never h =
+    never (emptyTable source 1) opening (as-answered (refusing number) ours (emptyTable source 1) opening h (answers-exactly (emptyTable source 1) opening) ∙ opens-in-one)
 
--- A control that refuses everything refuses that opening, which is to be done.
-pub refusing-is-shut-out : claim.AnswersExactly refusing → ⊥
-refusing-is-shut-out h =
-    let e : _≡_ {A = ℕ} 104 0 = as-ours refusing h (emptyTable source 1) opening ∙ opens-in-one in
-    absurd (omega arith)
-
--- A control that always returns the same, whatever it is, answers the two openings alike.
-pub constant-is-shut-out : (r : Reply source) → claim.AnswersExactly (constant r) → ⊥
+-- The two openings are to be answered differently.
+pub constant-is-shut-out : claim.ConstantIsShutOut
 constant-is-shut-out r h =
-    let done : r .answer ≡ 0 = as-ours (constant r) h (emptyTable source 1) opening ∙ opens-in-one in
-    let full : r .answer ≡ 104 = as-ours (constant r) h (emptyTable source 0) opening ∙ opens-in-none in
-    absurd (omega arith)
+    let done : r .answer ≡ 0 = as-answered (constant r) ours (emptyTable source 1) opening (h .0) (answers-exactly (emptyTable source 1) opening) ∙ opens-in-one in
+    let full : r .answer ≡ 104 = as-answered (constant r) ours (emptyTable source 0) opening (h .1) (answers-exactly (emptyTable source 0) opening) ∙ opens-in-none in
+    omega arith
 
--- A control that leaves the table untouched does not store the call that it opens.
-pub untouching-is-shut-out : claim.DoesExactly untouching → ⊥
+-- The call that is opened is to be stored.
+pub untouching-is-shut-out : claim.UntouchingIsShutOut
 untouching-is-shut-out h =
-    let e : _≡_ {A = ℕ} 0 7 = ap (λ (ys : List Call). getD ys 0 emptied .key) (h (emptyTable source 1) opening opens-in-one .0) in
-    absurd (omega arith)
+    let e : _≡_ {A = ℕ} 0 7 = ap (λ (ys : List Call). getD ys 0 emptied .key) (h opens-in-one .0) in
+    omega arith
 
--- A control that treats the first event and then merely moves numbers sends no connect at "ready", where B3 sends connect 2.
-abbrev initiated : List Call
-initiated = record { key = 7; hard = true; soft = Symmetric; state = SoftInitiated 1 2; last = 2; remote = 3 } ∷ []
-
-abbrev ready : Asked source
-ready = record { key = 7; does = meets Ready }
-
+-- B3 sends connect 2.
 is-ready : movingNumbers initiated ready .answer ≡ 0
 unfolding readFrom has distinctOf
 is-ready = refl
 
-pub moving-numbers-is-shut-out : claim.DoesExactly movingNumbers → ⊥
-moving-numbers-is-shut-out h =
-    let e : _≡_ {A = ℕ} 0 8 = ap (λ (ss : List Signal). kindNumber (getD ss 0 none .kind)) (h initiated ready is-ready .1) in
-    absurd (omega arith)
+says-nothing : kindNumber (getD (movingNumbers initiated ready .signals) 0 none .kind) ≡ 0
+unfolding readFrom has distinctOf
+says-nothing = refl
 
--- A control that invents the last connection number has given a first number that is not 1.
+pub moving-numbers-is-shut-out : claim.MovingNumbersIsShutOut
+moving-numbers-is-shut-out h =
+    let e : _≡_ {A = ℕ} 0 8 = sym says-nothing ∙ ap (λ (ss : List Signal). kindNumber (getD ss 0 none .kind)) (h is-ready .1) in
+    omega arith
+
+-- The first number given is to be 1.
 given-seven : logged source inventing 7 (emptyTable source 1) nothing (opening ∷ []) .given ≡ 7 ∷ []
 unfolding readFrom has distinctOf
 given-seven = refl
 
-pub inventing-is-shut-out : claim.EveryNumberAccounted inventing → ⊥
+pub inventing-is-shut-out : claim.InventingIsShutOut
 inventing-is-shut-out h =
-    let numbers = h 1 (opening ∷ []) 7 (λ e. omega arith) .numbers in
-    let e : _≡_ {A = ℕ} 7 1 = ap (λ (ns : List ℕ). getD ns 0 0) (sym given-seven ∙ (numbers ∙ ap (λ ns. oneTo (length ns)) given-seven)) in
-    absurd (omega arith)
+    let e : _≡_ {A = ℕ} 7 1 = ap (λ (ns : List ℕ). getD ns 0 0) (sym given-seven ∙ (h .numbers ∙ ap (λ ns. oneTo (length ns)) given-seven)) in
+    omega arith

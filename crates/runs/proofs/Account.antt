@@ -2,19 +2,19 @@
 use Prim.Native.Nat.{ℕ, zero, suc, _+_, _≤_, _<_}
 use native.Mathlib.Omega.{arith}
 use mathlib.Core.Path.{_≡_, refl, sym, _∙_, ap, subst}
-use mathlib.Core.Bool.{Bool, true, false, _&&_, cond, true≢false}
+use mathlib.Core.Bool.{Bool, true, false, cond, true≢false}
 use mathlib.Core.List.{List, [], _∷_, _++_, append-nil}
 use mathlib.Core.Logic.{_⊎_, inl, inr}
-use lib.Dec.{eqb, ltb}
-use lib.ListN.{length, length-append, replicate}
+use lib.Dec.{eqb}
+use lib.ListN.{length, length-append}
 use borrow.Author.Tests.{eqb-true, eqb-false, ne-eqb, le-ltb, lt-ltb}
 use Rattle.signal.specs.Counting.{one, count}
 use Rattle.signal.proofs.Counting.{count-append, one-self, one-other}
-use Rattle.runs.specs.Keyed.{onRecord, replacedFor}
-use Rattle.runs.specs.Run.{End, Does, opens, meets, Asked, Reply, Control, after, emptyTable}
-use Rattle.runs.specs.Account.{Log, nothing, oneTo, callOf, givenBy, endedBy, entered, noted, logged, Account, Opened, Lives, Met, Lawful}
+use Rattle.lent.specs.Keyed.{onRecord, replacedFor}
+use Rattle.runs.specs.Run.{End, Does, opens, meets, Asked, Reply, Control, after, emptyTable, callOf}
+use Rattle.runs.specs.Account.{Log, nothing, oneTo, Settled, AllSettled, givenBy, endedBy, sentIn, entered, noted, logged, Account, Opened, Lives, Met, Lawful}
 use Rattle.runs.specs.Account as claim
-use Rattle.runs.proofs.Keyed.{has-key, is-none, same-on, same-of, new-of, Apart, gone}
+use Rattle.runs.proofs.Keyed.{has-key, is-none, same-on, same-of, new-of, Once, once-none, once-same, once-new, once-own, gone}
 
 -- ---- the numbers from 1 to n
 length-one-to : (n : ℕ) → length (oneTo n) ≡ n
@@ -59,9 +59,12 @@ module _ (E : End) (C : Control E) (L : Lawful E C) where
     pub numbers : l .given ≡ oneTo (length (l .given))
     pub recorded : live ≡ true → length (l .given) ≡ E .last c
     pub counted : (x : ℕ) → count x (l .given) ≡ count x (l .ended) + count x (E .held c)
+    pub asked : (x : ℕ) → 1 ≤ x → count x (l .requested) ≤ count x (l .given)
+    pub before : AllSettled (l .past)
 
+  -- and that the key stands at most once
   abbrev Kept : ℕ → Table → Log → Type 0
-  Kept k ys l = Keeps (of k ys) (on k ys) l
+  Kept k ys l = Keeps (of k ys) (on k ys) l × Once (E .key) (E .empty) k ys
 
   -- the account, from that
   on-call : (k : ℕ) (ys : Table) → (E .key (of k ys) ≡ 0 → ⊥) → on k ys ≡ true
@@ -71,64 +74,99 @@ module _ (E : End) (C : Control E) (L : Lawful E C) where
       by-test true e = e
       by-test false e = absurd (named (ap (E .key) (is-none (E .key) (E .empty) k ys e) ∙ L .unused))
 
-  none-held : (k : ℕ) (ys : Table) → (k ≡ 0 → ⊥) → E .key (of k ys) ≡ 0 → (x : ℕ) → count x (E .held (of k ys)) ≡ 0
-  none-held k ys named gone′ x = by-test (on k ys) refl
-    where
-      by-test : (b : Bool) → on k ys ≡ b → count x (E .held (of k ys)) ≡ 0
-      by-test true e = absurd (named (sym (has-key (E .key) (E .empty) k ys e) ∙ gone′))
-      by-test false e = ap (λ c. count x (E .held c)) (is-none (E .key) (E .empty) k ys e) ∙ ap (count x) (L .nothing-held)
+  -- where a key is not on record, nothing is held
+  none-held : (k : ℕ) (ys : Table) → on k ys ≡ false → (x : ℕ) → count x (E .held (of k ys)) ≡ 0
+  none-held k ys e x = ap (λ c. count x (E .held c)) (is-none (E .key) (E .empty) k ys e) ∙ ap (count x) (L .nothing-held)
 
-  once : (k : ℕ) (ys : Table) (l : Log) → Kept k ys l → (x : ℕ) → 1 ≤ x → x ≤ length (l .given) → count x (l .ended) + count x (E .held (of k ys)) ≡ 1
-  once k ys l h x a b = sym (h .counted x) ∙ (ap (count x) (h .numbers) ∙ within (length (l .given)) x a b)
+  off-call : (k : ℕ) (ys : Table) → (k ≡ 0 → ⊥) → E .key (of k ys) ≡ 0 → on k ys ≡ false
+  off-call k ys named nought = by-test (on k ys) refl
+    where
+      by-test : (b : Bool) → on k ys ≡ b → on k ys ≡ false
+      by-test true e = absurd (named (sym (has-key (E .key) (E .empty) k ys e) ∙ nought))
+      by-test false e = e
+
+  once : (c : E .Record) (live : Bool) (l : Log) → Keeps c live l → (x : ℕ) → 1 ≤ x → x ≤ length (l .given) → count x (l .ended) + count x (E .held c) ≡ 1
+  once c live l h x a b = sym (h .counted x) ∙ (ap (count x) (h .numbers) ∙ within (length (l .given)) x a b)
 
   either-way : (m n : ℕ) → m + n ≡ 1 → ((m ≡ 1) × (n ≡ 0)) ⊎ ((m ≡ 0) × (n ≡ 1))
   either-way zero n e = inr (refl, omega arith)
   either-way (suc m) n e = inl (omega arith, omega arith)
 
-  account : (k : ℕ) (ys : Table) (l : Log) → (k ≡ 0 → ⊥) → Kept k ys l → Account E (of k ys) l
+  account : (k : ℕ) (ys : Table) (l : Log) → (k ≡ 0 → ⊥) → Keeps (of k ys) (on k ys) l → Account E (of k ys) l
   account k ys l named h =
       record {
         numbers = h .numbers;
         recorded = λ used. h .recorded (on-call k ys used);
-        accounted = λ x a b. either-way _ _ (once k ys l h x a b);
-        closed = λ gone′ x a b. omega (arith, once k ys l h x a b, none-held k ys named gone′ x);
-        others = λ x o. nought (sym (h .counted x) ∙ (ap (count x) (h .numbers) ∙ outside (length (l .given)) x o));
+        accounted = λ x a b. either-way _ _ (once (of k ys) (on k ys) l h x a b);
+        closed = λ nought x a b. omega (arith, once (of k ys) (on k ys) l h x a b, none-held k ys (off-call k ys named nought) x);
+        others = λ x o. both-nought (sym (h .counted x) ∙ (ap (count x) (h .numbers) ∙ outside (length (l .given)) x o));
+        asked = h .asked;
+        before = h .before;
       }
     where
-      nought : {m n : ℕ} → m + n ≡ 0 → (m ≡ 0) × (n ≡ 0)
-      nought e = (omega arith, omega arith)
+      both-nought : {m n : ℕ} → m + n ≡ 0 → (m ≡ 0) × (n ≡ 0)
+      both-nought e = (omega arith, omega arith)
+
+  -- ---- a refused request sends nothing, and its log says the same
+  nothing-more : (x : ℕ) (ns more : List ℕ) → more ≡ [] → count x (ns ++ more) ≡ count x ns
+  nothing-more x ns more e = ap (λ m. count x (ns ++ m)) e ∙ ap (count x) (append-nil ns)
+
+  refused-kept : (k : ℕ) (ys : Table) (a : Asked E) (l : Log) → (C ys a .answer ≡ 0 → ⊥) → Kept k ys l → Kept k (C ys a .table) (sentIn E (C ys a) l)
+  refused-kept k ys a l refused h = subst (λ zs. Kept k zs (sentIn E (C ys a) l)) (sym (quiet .0)) (record { numbers = h .0 .numbers; recorded = h .0 .recorded; counted = counted′; asked = asked′; before = h .0 .before }, h .1)
+    where
+      quiet : (C ys a .table ≡ ys) × (C ys a .signals ≡ E .silent)
+      quiet = L .refused ys a refused
+
+      counted′ : (x : ℕ) → count x (l .given) ≡ count x (l .ended ++ E .released (C ys a .signals)) + count x (E .held (of k ys))
+      counted′ x = omega (arith, h .0 .counted x, nothing-more x (l .ended) _ (ap (E .released) (quiet .1) ∙ L .nothing-released))
+
+      asked′ : (x : ℕ) → 1 ≤ x → count x (l .requested ++ E .requested (C ys a .signals)) ≤ count x (l .given)
+      asked′ x a′ = omega (arith, h .0 .asked x a′, nothing-more x (l .requested) _ (ap (E .requested) (quiet .1) ∙ L .nothing-requested))
 
   -- ---- an opening
-  opening-own : (k : ℕ) (ys : Table) (r : Reply E) → Opened E ys k r → Kept k (r .table) (record { given = E .last (of k (r .table)) ∷ []; ended = [] })
-  opening-own k ys r o = subst (λ c. Keeps c (on k (r .table)) (record { given = E .last c ∷ []; ended = [] })) (sym now) begun
+  opening-own : (k : ℕ) (ys : Table) (r : Reply E) (l : Log) (w : E .Wanted) → Opened E ys k r → Kept k ys l → Kept k (r .table) (entered E (opens w) true (of k ys) (of k (r .table)) r l)
+  opening-own k ys r l w o h = (subst (λ c. Keeps c (on k (r .table)) (entered E (opens w) true (of k ys) c r l)) (sym now) begun, subst (Once (E .key) (E .empty) k) (sym (o .stored)) (once-new (E .key) (E .empty) k 0 (o .call) ys (o .new)))
     where
       now : of k (r .table) ≡ o .call
-      now = ap (of k) (o .stored) ∙ new-of (E .key) (E .empty) k 0 (o .call) ys (o .free) (o .sound) (inr (o .new))
+      now = ap (of k) (o .stored) ∙ new-of (E .key) (E .empty) k 0 (o .call) ys (o .free) (o .own) (inr (o .new))
 
-      begun : Keeps (o .call) (on k (r .table)) (record { given = E .last (o .call) ∷ []; ended = [] })
+      -- what was before is over and done with: the key was not on record, so nothing was held
+      settled : Settled (record { given = l .given; ended = l .ended })
+      settled = record { numbers = h .0 .numbers; ended = λ x. omega (arith, h .0 .counted x, none-held k ys (o .new) x) }
+
+      begun : Keeps (o .call) (on k (r .table)) (entered E (opens w) true (of k ys) (o .call) r l)
       begun =
           record {
             numbers = ap (λ n. n ∷ []) (o .first);
             recorded = λ t. sym (o .first);
-            counted = λ x. let e : count x (E .last (o .call) ∷ []) ≡ count x (E .held (o .call)) = ap (λ n. count x (n ∷ [])) (o .first) ∙ ap (count x) (sym (o .holds)) in omega arith;
+            counted = λ x.
+                let given : count x (E .last (o .call) ∷ []) ≡ count x (E .held (o .call)) = ap (λ n. count x (n ∷ [])) (o .first) ∙ ap (count x) (sym (o .holds)) in
+                let none : count x (E .released (r .signals)) ≡ 0 = ap (λ s. count x (E .released s)) (o .quiet) ∙ ap (count x) (L .nothing-released) in
+                omega arith;
+            asked = λ x a.
+                let none : count x (E .requested (r .signals)) ≡ 0 = ap (λ s. count x (E .requested s)) (o .quiet) ∙ ap (count x) (L .nothing-requested) in
+                omega arith;
+            before = (settled, h .0 .before);
           }
 
   -- ---- an event
+  -- the record that it leaves has another key, where it is the empty one
+  emptied-other : (k : ℕ) (d : E .Record) → (k ≡ 0 → ⊥) → d ≡ E .empty → E .key d ≡ k → ⊥
+  emptied-other k d named emptied s = named (sym s ∙ (ap (E .key) emptied ∙ L .unused))
+
   -- the call's record after it
-  now : (k : ℕ) (ys : Table) (e : E .Event) (r : Reply E) → (k ≡ 0 → ⊥) → Apart (E .key) (E .empty) ys → (m : Met E ys k e r) → of k (r .table) ≡ m .call
-  now k ys e r named apart m = ap (of k) (m .stored) ∙ by-life (m .lives)
+  now-is : (k : ℕ) (ys : Table) (e : E .Event) (r : Reply E) → (k ≡ 0 → ⊥) → Once (E .key) (E .empty) k ys → (m : Met E ys k e r) → of k (r .table) ≡ m .call
+  now-is k ys e r named single m = ap (of k) (m .stored) ∙ by-life (m .lives)
     where
-      by-life : Lives E k (of k ys) (m .call)
-          → of k (replacedFor (E .key) k (m .call) ys) ≡ m .call
+      by-life : Lives E k (of k ys) (m .call) → of k (replacedFor (E .key) k (m .call) ys) ≡ m .call
       by-life (inl lives) = new-of (E .key) (E .empty) k k (m .call) ys (m .known) (lives .0) (inl refl)
       by-life (inr emptied) =
-          is-none (E .key) (E .empty) k (replacedFor (E .key) k (m .call) ys) (gone (E .key) (E .empty) k (m .call) ys named apart (λ s. named (sym s ∙ (ap (E .key) emptied ∙ L .unused))))
+          is-none (E .key) (E .empty) k (replacedFor (E .key) k (m .call) ys) (gone (E .key) (E .empty) k (m .call) ys single (emptied-other k (m .call) named emptied))
           ∙ sym emptied
 
   -- whether the key is on record after it: not where the record was emptied
-  off-record : (k : ℕ) (ys : Table) (e : E .Event) (r : Reply E) → (k ≡ 0 → ⊥) → Apart (E .key) (E .empty) ys → (m : Met E ys k e r) → m .call ≡ E .empty → on k (r .table) ≡ false
-  off-record k ys e r named apart m emptied =
-      ap (on k) (m .stored) ∙ gone (E .key) (E .empty) k (m .call) ys named apart (λ s. named (sym s ∙ (ap (E .key) emptied ∙ L .unused)))
+  off-record : (k : ℕ) (ys : Table) (e : E .Event) (r : Reply E) → (k ≡ 0 → ⊥) → Once (E .key) (E .empty) k ys → (m : Met E ys k e r) → m .call ≡ E .empty → on k (r .table) ≡ false
+  off-record k ys e r named single m emptied = ap (on k) (m .stored) ∙ gone (E .key) (E .empty) k (m .call) ys single (emptied-other k (m .call) named emptied)
 
   -- the numbers given, where none and where one is added
   none-added : (c d : E .Record) (g : List ℕ) → E .last d ≤ E .last c → g ++ givenBy E c d ≡ g
@@ -137,50 +175,60 @@ module _ (E : End) (C : Control E) (L : Lawful E C) where
   one-added : (c d : E .Record) (g : List ℕ) → E .last d ≡ suc (E .last c) → g ++ givenBy E c d ≡ g ++ (suc (E .last c) ∷ [])
   one-added c d g h = rw (lt-ltb (E .last c) (E .last d) (omega arith), h)
 
-  event-own : (k : ℕ) (ys : Table) (e : E .Event) (r : Reply E) (l : Log) → (k ≡ 0 → ⊥) → Apart (E .key) (E .empty) ys → Met E ys k e r → Kept k ys l →
-      Kept k (r .table) (record { given = l .given ++ givenBy E (of k ys) (of k (r .table)); ended = l .ended ++ endedBy E e r })
-  event-own k ys e r l named apart m h =
-      subst (λ c. Keeps c (on k (r .table)) (record { given = l .given ++ givenBy E (of k ys) c; ended = l .ended ++ endedBy E e r })) (sym (now k ys e r named apart m))
-      record { numbers = numbers′ (m .lives); recorded = recorded′ (m .lives); counted = counted′ }
+  event-own : (k : ℕ) (ys : Table) (e : E .Event) (r : Reply E) (l : Log) → (k ≡ 0 → ⊥) → Met E ys k e r → Kept k ys l → Kept k (r .table) (entered E (meets e) true (of k ys) (of k (r .table)) r l)
+  event-own k ys e r l named m h = (
+    subst (λ c. Keeps c (on k (r .table)) (entered E (meets e) true (of k ys) c r l)) (sym (now-is k ys e r named (h .1) m))
+        record { numbers = numbers′ (m .lives); recorded = recorded′ (m .lives); counted = counted′; asked = asked′; before = h .0 .before },
+    subst (Once (E .key) (E .empty) k) (sym (m .stored)) (once-own (E .key) (E .empty) k (m .call) ys (h .1)),
+  )
     where
       before : length (l .given) ≡ E .last (of k ys)
-      before = h .recorded (m .known)
+      before = h .0 .recorded (m .known)
 
       given′ : List ℕ
       given′ = l .given ++ givenBy E (of k ys) (m .call)
 
       unchanged : E .last (m .call) ≤ E .last (of k ys) → given′ ≡ oneTo (length given′)
-      unchanged h′ = let same = none-added (of k ys) (m .call) (l .given) h′ in same ∙ (h .numbers ∙ ap (λ g. oneTo (length g)) (sym same))
+      unchanged h′ = let same = none-added (of k ys) (m .call) (l .given) h′ in same ∙ (h .0 .numbers ∙ ap (λ g. oneTo (length g)) (sym same))
 
       longer : E .last (m .call) ≡ suc (E .last (of k ys)) → length given′ ≡ suc (E .last (of k ys))
       longer grew = ap length (one-added (of k ys) (m .call) (l .given) grew) ∙ (length-append (l .given) (suc (E .last (of k ys)) ∷ []) ∙ omega (arith, before))
 
       numbers′ : Lives E k (of k ys) (m .call) → given′ ≡ oneTo (length given′)
       numbers′ (inl (own, inl same)) = unchanged (omega arith)
-      numbers′ (inl (own, inr grew)) = one-added (of k ys) (m .call) (l .given) grew ∙ (ap (λ g. g ++ (suc (E .last (of k ys)) ∷ [])) (h .numbers ∙ ap oneTo before) ∙ ap oneTo (sym (longer grew)))
+      numbers′ (inl (own, inr grew)) =
+          one-added (of k ys) (m .call) (l .given) grew ∙ (ap (λ g. g ++ (suc (E .last (of k ys)) ∷ [])) (h .0 .numbers ∙ ap oneTo before) ∙ ap oneTo (sym (longer grew)))
       numbers′ (inr emptied) = let none : E .last (m .call) ≡ 0 = ap (E .last) emptied ∙ L .spent in unchanged (omega arith)
 
-      recorded′ : Lives E k (of k ys) (m .call)
-          → on k (r .table) ≡ true → length given′ ≡ E .last (m .call)
+      recorded′ : Lives E k (of k ys) (m .call) → on k (r .table) ≡ true → length given′ ≡ E .last (m .call)
       recorded′ (inl (own, inl same)) t = ap length (none-added (of k ys) (m .call) (l .given) (omega arith)) ∙ (before ∙ sym same)
       recorded′ (inl (own, inr grew)) t = longer grew ∙ sym grew
-      recorded′ (inr emptied) t = absurd (true≢false (sym t ∙ off-record k ys e r named apart m emptied))
+      recorded′ (inr emptied) t = absurd (true≢false (sym t ∙ off-record k ys e r named (h .1) m emptied))
 
       counted′ : (x : ℕ) → count x given′ ≡ count x (l .ended ++ endedBy E e r) + count x (E .held (m .call))
-      counted′ x = omega (arith, count-append x (l .given) (givenBy E (of k ys) (m .call)), count-append x (l .ended) (endedBy E e r), h .counted x, m .balances x)
+      counted′ x = omega (arith, count-append x (l .given) (givenBy E (of k ys) (m .call)), count-append x (l .ended) (endedBy E e r), h .0 .counted x, m .balances x)
+
+      asked′ : (x : ℕ) → 1 ≤ x → count x (l .requested ++ E .requested (r .signals)) ≤ count x given′
+      asked′ x a = omega (arith, count-append x (l .given) (givenBy E (of k ys) (m .call)), count-append x (l .requested) (E .requested (r .signals)), h .0 .asked x a, m .asks x a)
 
   -- ---- a request for another key leaves this one
-  abbrev Same : ℕ → Table → Table → Type 0
-  Same k ys zs = (on k zs ≡ on k ys) × (of k zs ≡ of k ys)
+  record Same (k : ℕ) (ys zs : Table) : Type 0 where
+    pub on-same : on k zs ≡ on k ys
+    pub of-same : of k zs ≡ of k ys
+    pub single : Once (E .key) (E .empty) k ys → Once (E .key) (E .empty) k zs
 
   replaced-same : (k j : ℕ) (d : E .Record) (ys zs : Table) → zs ≡ replacedFor (E .key) j d ys → (j ≡ k → ⊥) → (E .key d ≡ k → ⊥) → Same k ys zs
   replaced-same k j d ys zs stored other new =
-      (ap (on k) stored ∙ same-on (E .key) (E .empty) k j d ys other new, ap (of k) stored ∙ same-of (E .key) (E .empty) k j d ys other new)
+      record {
+        on-same = ap (on k) stored ∙ same-on (E .key) (E .empty) k j d ys other new;
+        of-same = ap (of k) stored ∙ same-of (E .key) (E .empty) k j d ys other new;
+        single = λ h. subst (Once (E .key) (E .empty) k) (sym stored) (once-same (E .key) (E .empty) k j d ys new h);
+      }
 
   other-same : (k j : ℕ) (ys : Table) (does : Does (E .Wanted) (E .Event)) → (k ≡ 0 → ⊥) → (j ≡ k → ⊥) → C ys (record { key = j; does = does }) .answer ≡ 0 →
       Same k ys (C ys (record { key = j; does = does }) .table)
   other-same k j ys (opens w) named other done =
-      let o = L .opened ys j w done in replaced-same k 0 (o .call) ys _ (o .stored) (λ s. named (sym s)) (λ s. other (sym (o .sound) ∙ s))
+      let o = L .opened ys j w done in replaced-same k 0 (o .call) ys _ (o .stored) (λ s. named (sym s)) (λ s. other (sym (o .own) ∙ s))
   other-same k j ys (meets e) named other done =
       let m = L .met ys j e done in replaced-same k j (m .call) ys _ (m .stored) other (new (m .lives))
     where
@@ -189,37 +237,42 @@ module _ (E : End) (C : Control E) (L : Lawful E C) where
       new (inr emptied) s = named (sym s ∙ (ap (E .key) emptied ∙ L .unused))
 
   kept-same : (k : ℕ) (ys zs : Table) (l : Log) → Same k ys zs → Kept k ys l → Kept k zs l
-  kept-same k ys zs l same h = subst (λ b. Keeps (of k zs) b l) (sym (same .0)) (subst (λ c. Keeps c (on k ys) l) (sym (same .1)) h)
+  kept-same k ys zs l same h = (subst (λ b. Keeps (of k zs) b l) (sym (same .on-same)) (subst (λ c. Keeps c (on k ys) l) (sym (same .of-same)) (h .0)), same .single (h .1))
 
-  -- ---- a request for this key, done
-  own-kept : (k : ℕ) (ys : Table) (does : Does (E .Wanted) (E .Event)) (l : Log) → (k ≡ 0 → ⊥) → C ys (record { key = k; does = does }) .answer ≡ 0 → Kept k ys l →
+  -- ---- a request for this key, done or refused
+  own-done : (k : ℕ) (ys : Table) (does : Does (E .Wanted) (E .Event)) (l : Log) → (k ≡ 0 → ⊥) → C ys (record { key = k; does = does }) .answer ≡ 0 → Kept k ys l →
       Kept k (C ys (record { key = k; does = does }) .table)
-      (entered E does (of k ys) (of k (C ys (record { key = k; does = does }) .table)) (C ys (record { key = k; does = does })) l)
-  own-kept k ys (opens w) l named done h = opening-own k ys _ (L .opened ys k w done)
-  own-kept k ys (meets e) l named done h = event-own k ys e _ l named (L .apart ys (record { key = k; does = meets e }) done) (L .met ys k e done) h
+      (entered E does true (of k ys) (of k (C ys (record { key = k; does = does }) .table)) (C ys (record { key = k; does = does })) l)
+  own-done k ys (opens w) l named done h = opening-own k ys _ l w (L .opened ys k w done) h
+  own-done k ys (meets e) l named done h = event-own k ys e _ l named (L .met ys k e done) h
+
+  own-refused : (does : Does (E .Wanted) (E .Event)) (before now : E .Record) (r : Reply E) (l : Log) → entered E does false before now r l ≡ sentIn E r l
+  own-refused (opens w) before now r l = refl
+  own-refused (meets e) before now r l = refl
 
   -- ---- any request, and a run
   step : (k j : ℕ) (ys : Table) (does : Does (E .Wanted) (E .Event)) (l : Log) → (k ≡ 0 → ⊥) → Kept k ys l →
       Kept k (C ys (record { key = j; does = does }) .table) (noted E k ys (record { key = j; does = does }) (C ys (record { key = j; does = does })) l)
   step k j ys does l named h = by-tests (eqb j k) (eqb (r .answer) 0) refl refl
     where
-      r : Reply E
-      r = C ys (record { key = j; does = does })
+      a : Asked E
+      a = record { key = j; does = does }
 
-      unmoved : (eqb (r .answer) 0 ≡ false) → Kept k (r .table) l
-      unmoved refused = subst (λ zs. Kept k zs l) (sym (L .refused ys (record { key = j; does = does }) (eqb-false (r .answer) 0 refused))) h
+      r : Reply E
+      r = C ys a
 
       by-tests : (mine done : Bool) → eqb j k ≡ mine → eqb (r .answer) 0 ≡ done →
-          Kept k (r .table) (cond (mine && done) (entered E does (of k ys) (of k (r .table)) r l) l)
+          Kept k (r .table) (cond mine (entered E does done (of k ys) (of k (r .table)) r l) l)
       by-tests true true own done =
           subst
           (λ i. C ys (record { key = i; does = does }) .answer ≡ 0 →
           Kept k (C ys (record { key = i; does = does }) .table)
-          (entered E does (of k ys) (of k (C ys (record { key = i; does = does }) .table)) (C ys (record { key = i; does = does })) l))
-          (sym (eqb-true j k own)) (λ d. own-kept k ys does l named d h) (eqb-true (r .answer) 0 done)
+          (entered E does true (of k ys) (of k (C ys (record { key = i; does = does }) .table)) (C ys (record { key = i; does = does })) l))
+          (sym (eqb-true j k own)) (λ d. own-done k ys does l named d h) (eqb-true (r .answer) 0 done)
+      by-tests true false own done =
+          subst (Kept k (r .table)) (sym (own-refused does (of k ys) (of k (r .table)) r l)) (refused-kept k ys a l (eqb-false (r .answer) 0 done) h)
       by-tests false true own done = kept-same k ys (r .table) l (other-same k j ys does named (eqb-false j k own) (eqb-true (r .answer) 0 done)) h
-      by-tests true false own done = unmoved done
-      by-tests false false own done = unmoved done
+      by-tests false false own done = subst (λ zs. Kept k zs l) (sym (L .refused ys a (eqb-false (r .answer) 0 done) .0)) h
 
   along : (k : ℕ) (ys : Table) (requests : List (Asked E)) (l : Log) → (k ≡ 0 → ⊥) → Kept k ys l → Kept k (after E C ys requests) (logged E C k ys l requests)
   along k ys [] l named h = h
@@ -231,13 +284,17 @@ module _ (E : End) (C : Control E) (L : Lawful E C) where
   none-on k (suc n) named = rw (ne-eqb (E .key (E .empty)) k (λ s. named (sym s ∙ L .unused)), none-on k n named)
 
   at-first : (k n : ℕ) → (k ≡ 0 → ⊥) → Kept k (emptyTable E n) nothing
-  at-first k n named =
-      record {
-        numbers = refl;
-        recorded = λ t. absurd (true≢false (sym t ∙ none-on k n named));
-        counted = λ x. let e : count x (E .held (of k (emptyTable E n))) ≡ 0 = ap (λ c. count x (E .held c)) (is-none (E .key) (E .empty) k (emptyTable E n) (none-on k n named)) ∙ ap (count x) (L .nothing-held) in omega arith;
-      }
+  at-first k n named = (
+    record {
+      numbers = refl;
+      recorded = λ t. absurd (true≢false (sym t ∙ none-on k n named));
+      counted = λ x. omega (arith, none-held k (emptyTable E n) (none-on k n named) x);
+      asked = λ x a. omega arith;
+      before = tt;
+    },
+    once-none (E .key) (E .empty) k (emptyTable E n) (none-on k n named),
+  )
 
 pub laws-keep-account : (E : End) → claim.LawsKeepAccount E
 laws-keep-account E C L n requests k named =
-    account E C L k (after E C (emptyTable E n) requests) _ named (along E C L k (emptyTable E n) requests nothing named (at-first E C L k n named))
+    account E C L k (after E C (emptyTable E n) requests) _ named (along E C L k (emptyTable E n) requests nothing named (at-first E C L k n named) .0)

@@ -1,13 +1,12 @@
 -- The laws of a table of records with keys. Assumes nothing.
-use Prim.Native.Nat.{ℕ, zero, suc, _<_, zero-le, suc-le-suc}
+use Prim.Native.Nat.{ℕ}
 use mathlib.Core.Path.{_≡_, refl, sym, _∙_, ap}
 use mathlib.Core.Bool.{Bool, true, false, _||_, cond, true≢false, false≢true}
 use mathlib.Core.List.{List, [], _∷_}
 use mathlib.Core.Logic.{_⊎_, inl, inr}
 use lib.Dec.{eqb}
-use lib.ListN.{length, getD}
 use borrow.Author.Tests.{eqb-true, eqb-false, eq-eqb, ne-eqb}
-use Rattle.runs.specs.Keyed.{onRecord, recordOf, replacedFor}
+use Rattle.lent.specs.Keyed.{onRecord, recordOf, replacedFor}
 
 module _ {X : Type 0} (key : X → ℕ) (none : X) where
   abbrev on : ℕ → List X → Bool
@@ -69,25 +68,61 @@ module _ {X : Type 0} (key : X → ℕ) (none : X) where
       by-test true e t f rest = rw (eq-eqb (key d) k own)
       by-test false e t f rest = let p = past (eqb (key c) k) e refl f in rw (p .0) (rest t own (p .1))
 
-  -- keys but 0 stand apart
-  abbrev pub Apart : List X → Type 0
-  Apart ys = (i j : ℕ) → i < j → j < length ys → key (getD ys i none) ≡ key (getD ys j none) → key (getD ys i none) ≡ 0
+  -- a key stands at most once
+  abbrev pub Once : ℕ → List X → Type 0
+  Once k [] = Unit {0}
+  Once k (c ∷ cs) = (key c ≡ k → on k cs ≡ false) × Once k cs
 
-  apart-rest : (c : X) (cs : List X) → Apart (c ∷ cs) → Apart cs
-  apart-rest c cs a i j l m e = a (suc i) (suc j) (suc-le-suc l) (suc-le-suc m) e
+  pub once-none : (k : ℕ) (ys : List X) → on k ys ≡ false → Once k ys
+  once-none k [] h = tt
+  once-none k (c ∷ cs) h = let rest = behind (eqb (key c) k) h in (λ _. rest, once-none k cs rest)
+    where
+      behind : (b : Bool) → (b || on k cs) ≡ false → on k cs ≡ false
+      behind true t = absurd (true≢false t)
+      behind false t = t
 
-  -- a key at the head stands nowhere behind it
-  off-rest : (k : ℕ) (ys : List X) → ((j : ℕ) → j < length ys → k ≡ key (getD ys j none) → ⊥) → on k ys ≡ false
-  off-rest k [] h = refl
-  off-rest k (c ∷ cs) h = rw (ne-eqb (key c) k (λ s. h 0 (suc-le-suc zero-le) (sym s)), off-rest k cs (λ j l s. h (suc j) (suc-le-suc l) s))
+  -- it does so after any record but one with that key was put
+  off-put : (k j : ℕ) (d : X) (ys : List X) → (key d ≡ k → ⊥) → on k ys ≡ false → on k (put j d ys) ≡ false
+  off-put k j d [] new h = refl
+  off-put k j d (c ∷ cs) new h = by-tests (eqb (key c) j) (eqb (key c) k) refl h (off-put k j d cs new)
+    where
+      by-tests : (b own : Bool) → eqb (key c) k ≡ own → (own || on k cs) ≡ false → (on k cs ≡ false → on k (put j d cs) ≡ false) → on k (cond b (d ∷ cs) (c ∷ put j d cs)) ≡ false
+      by-tests b true o t rest = absurd (true≢false t)
+      by-tests true false o t rest = rw (ne-eqb (key d) k new, t)
+      by-tests false false o t rest = rw (o, rest t)
 
-  -- where keys stand apart, a key whose record is replaced by one without it is gone
-  pub gone : (k : ℕ) (d : X) (ys : List X) → (k ≡ 0 → ⊥) → Apart ys → (key d ≡ k → ⊥) → on k (put k d ys) ≡ false
-  gone k d [] named a new = refl
-  gone k d (c ∷ cs) named a new = by-test (eqb (key c) k) refl (gone k d cs named (apart-rest c cs a) new)
+  pub once-same : (k j : ℕ) (d : X) (ys : List X) → (key d ≡ k → ⊥) → Once k ys → Once k (put j d ys)
+  once-same k j d [] new h = tt
+  once-same k j d (c ∷ cs) new h = by-test (eqb (key c) j) (once-same k j d cs new (h .1))
+    where
+      by-test : (b : Bool) → Once k (put j d cs) → Once k (cond b (d ∷ cs) (c ∷ put j d cs))
+      by-test true rest = (λ s. absurd (new s), h .1)
+      by-test false rest = (λ s. off-put k j d cs new (h .0 s), rest)
+
+  -- after one with that key was put where none stood
+  pub once-new : (k j : ℕ) (d : X) (ys : List X) → on k ys ≡ false → Once k (put j d ys)
+  once-new k j d [] h = tt
+  once-new k j d (c ∷ cs) h = by-tests (eqb (key c) j) (eqb (key c) k) refl h (once-new k j d cs)
+    where
+      by-tests : (b own : Bool) → eqb (key c) k ≡ own → (own || on k cs) ≡ false → (on k cs ≡ false → Once k (put j d cs)) → Once k (cond b (d ∷ cs) (c ∷ put j d cs))
+      by-tests b true o t rest = absurd (true≢false t)
+      by-tests true false o t rest = (λ _. t, once-none k cs t)
+      by-tests false false o t rest = (λ s. absurd (eqb-false (key c) k o s), rest t)
+
+  -- and after its own record was replaced
+  pub once-own : (k : ℕ) (d : X) (ys : List X) → Once k ys → Once k (put k d ys)
+  once-own k d [] h = tt
+  once-own k d (c ∷ cs) h = by-test (eqb (key c) k) refl (once-own k d cs (h .1))
+    where
+      by-test : (b : Bool) → eqb (key c) k ≡ b → Once k (put k d cs) → Once k (cond b (d ∷ cs) (c ∷ put k d cs))
+      by-test true e rest = (λ _. h .0 (eqb-true (key c) k e), h .1)
+      by-test false e rest = (λ s. absurd (eqb-false (key c) k e s), rest)
+
+  -- a key that stands once, and whose record is replaced by one without it, is gone
+  pub gone : (k : ℕ) (d : X) (ys : List X) → Once k ys → (key d ≡ k → ⊥) → on k (put k d ys) ≡ false
+  gone k d [] h new = refl
+  gone k d (c ∷ cs) h new = by-test (eqb (key c) k) refl (gone k d cs (h .1) new)
     where
       by-test : (b : Bool) → eqb (key c) k ≡ b → on k (put k d cs) ≡ false → on k (cond b (d ∷ cs) (c ∷ put k d cs)) ≡ false
-      by-test true e rest =
-          let same : key c ≡ k = eqb-true (key c) k e in
-          rw (ne-eqb (key d) k new, off-rest k cs (λ j l s. named (sym same ∙ a 0 (suc j) (suc-le-suc zero-le) (suc-le-suc l) (same ∙ s))))
+      by-test true e rest = rw (ne-eqb (key d) k new, h .0 (eqb-true (key c) k e))
       by-test false e rest = rw (e, rest)

@@ -1,3 +1,4 @@
 pub mod Keyed
 pub mod Woven
+pub mod Late
 pub mod Account

@@ -1,8 +1,8 @@
 -- Insertions that leave the table as it was leave all else (specs/Woven), proved. Assumes nothing.
-use mathlib.Core.Path.{_≡_, refl, sym, _∙_, ap}
-use mathlib.Core.List.{List, [], _∷_}
-use Rattle.runs.specs.Run.{End, Asked, Reply, Control, runOf, after}
-use Rattle.runs.specs.Woven.{Thread, own, inserted, itself, woven, ownReplies, AtInsertions, LeftAlone}
+use mathlib.Core.Path.{refl, _∙_, ap}
+use mathlib.Core.List.{[], _∷_}
+use Rattle.runs.specs.Run.{End, Control, runOf, after}
+use Rattle.runs.specs.Woven.{own, inserted, itself}
 use Rattle.runs.specs.Woven as claim
 
 pub inert-insertions : (E : End) (C : Control E) → claim.InertInsertions E C

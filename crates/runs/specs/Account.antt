@@ -1,47 +1,85 @@
 -- The account of connection numbers over a whole run: what has been given to the call of a key since its opening, and what has been ended. Assumes nothing.
 use Prim.Native.Nat.{ℕ, zero, suc, _+_, _≤_, _<_}
 use mathlib.Core.Path.{_≡_}
-use mathlib.Core.Bool.{Bool, true, false, _&&_, cond}
+use mathlib.Core.Bool.{Bool, true, false, cond}
 use mathlib.Core.List.{List, [], _∷_, _++_}
 use mathlib.Core.Logic.{_⊎_}
 use lib.Dec.{eqb, ltb}
-use lib.ListN.{length, getD}
-use Rattle.signal.specs.Counting.{count, endedSent}
-use Rattle.runs.specs.Keyed.{onRecord, recordOf, replacedFor}
-use Rattle.runs.specs.Run.{End, Does, opens, meets, Asked, Reply, Control, after, emptyTable}
+use lib.ListN.{length}
+use Rattle.lent.specs.Keyed.{onRecord, replacedFor}
+use Rattle.signal.specs.Counting.{count}
+use Rattle.runs.specs.Run.{End, Does, opens, meets, Asked, Reply, Control, after, emptyTable, callOf, RefusalsAreSilent}
 
--- since a call's opening: the numbers given to it, and the numbers ended, each as often as it was
-pub record Log : Type 0 where
+-- a call that has been: the numbers given to it, and the numbers ended, each as often as it was
+pub record Spell : Type 0 where
   pub given : List ℕ
   pub ended : List ℕ
 
+-- since a call's opening: the numbers given, ended, and asked for by a setup that was sent; and the calls under the same key before it
+pub record Log : Type 0 where
+  pub given : List ℕ
+  pub ended : List ℕ
+  pub requested : List ℕ
+  pub past : List Spell
+
 abbrev pub nothing : Log
-nothing = record { given = []; ended = [] }
+nothing = record { given = []; ended = []; requested = []; past = [] }
 
 -- the numbers from 1 to n
 abbrev pub oneTo : ℕ → List ℕ
 oneTo zero = []
 oneTo (suc n) = oneTo n ++ (suc n ∷ [])
 
-module _ (E : End) where
-  abbrev pub callOf : ℕ → List (E .Record) → E .Record
-  callOf k ys = recordOf (E .key) (E .empty) k ys
+-- a call that is over and done with: the numbers 1, 2, 3 and so on were given to it, and each of them, and no other, was ended exactly once
+pub record Settled (s : Spell) : Type 0 where
+  pub numbers : s .given ≡ oneTo (length (s .given))
+  pub ended : (x : ℕ) → count x (s .ended) ≡ count x (s .given)
 
+abbrev pub AllSettled : List Spell → Type 0
+AllSettled [] = Unit {0}
+AllSettled (s ∷ more) = Settled s × AllSettled more
+
+module _ (E : End) where
   -- the number that a request gives: the record's last number, where it has grown
   abbrev pub givenBy : E .Record → E .Record → List ℕ
   givenBy before now = cond (ltb (E .last before) (E .last now)) (E .last now ∷ []) []
 
-  -- the numbers that a request ends, read off the event and the signals alone: by a release received, and by releases sent
+  -- the numbers that an event ends, read off the event and what is sent alone: by a release received, and by releases sent
   abbrev pub endedBy : E .Event → Reply E → List ℕ
-  endedBy e r = E .reported e ++ endedSent (r .signals)
+  endedBy e r = E .reported e ++ E .released (r .signals)
 
-  -- a request that is done enters the log of its key: an opening begins it anew, an event adds to it. A refused one enters nothing
-  abbrev pub entered : Does (E .Wanted) (E .Event) → E .Record → E .Record → Reply E → Log → Log
-  entered (opens w) before now r l = record { given = E .last now ∷ []; ended = [] }
-  entered (meets e) before now r l = record { given = l .given ++ givenBy before now; ended = l .ended ++ endedBy e r }
+  -- what is sent counts, whatever the answer
+  abbrev pub sentIn : Reply E → Log → Log
+  sentIn r l =
+      record {
+        given = l .given;
+        ended = l .ended ++ E .released (r .signals);
+        requested = l .requested ++ E .requested (r .signals);
+        past = l .past;
+      }
+
+  -- a request for the key enters its log. An opening that is done begins it anew, and what was before is a call that has been; an event that is done adds what it gives and ends; of what is refused, only what
+  -- is sent counts
+  abbrev pub entered : Does (E .Wanted) (E .Event) → Bool → E .Record → E .Record → Reply E → Log → Log
+  entered (opens w) true before now r l =
+      record {
+        given = E .last now ∷ [];
+        ended = E .released (r .signals);
+        requested = E .requested (r .signals);
+        past = record { given = l .given; ended = l .ended } ∷ l .past;
+      }
+  entered (opens w) false before now r l = sentIn r l
+  entered (meets e) true before now r l =
+      record {
+        given = l .given ++ givenBy before now;
+        ended = l .ended ++ endedBy e r;
+        requested = l .requested ++ E .requested (r .signals);
+        past = l .past;
+      }
+  entered (meets e) false before now r l = sentIn r l
 
   abbrev pub noted : ℕ → List (E .Record) → Asked E → Reply E → Log → Log
-  noted k ys a r l = cond (eqb (a .key) k && eqb (r .answer) 0) (entered (a .does) (callOf k ys) (callOf k (r .table)) r l) l
+  noted k ys a r l = cond (eqb (a .key) k) (entered (a .does) (eqb (r .answer) 0) (callOf E k ys) (callOf E k (r .table)) r l) l
 
   -- the log of a key along a run
   abbrev pub logged : Control E → ℕ → List (E .Record) → Log → List (Asked E) → Log
@@ -60,43 +98,51 @@ module _ (E : End) where
     pub closed : E .key c ≡ 0 → (x : ℕ) → 1 ≤ x → x ≤ length (l .given) → count x (l .ended) ≡ 1
     -- no other number is held, or has been ended
     pub others : (x : ℕ) → (x ≡ 0) ⊎ (length (l .given) < x) → (count x (l .ended) ≡ 0) × (count x (E .held c) ≡ 0)
+    -- a number that was asked for by a setup is one that was given, and was asked for once
+    pub asked : (x : ℕ) → 1 ≤ x → count x (l .requested) ≤ count x (l .given)
+    -- and every call under the key before it was over and done with when the key was used again
+    pub before : AllSettled (l .past)
 
   -- In every run from an empty table, at every point (a run to there is a run), for every key.
   abbrev pub Accounting : Control E → Type 0
   Accounting C =
       (n : ℕ) (requests : List (Asked E)) (k : ℕ) → (k ≡ 0 → ⊥) →
-      Account (callOf k (after E C (emptyTable E n) requests)) (logged C k (emptyTable E n) nothing requests)
+      Account (callOf E k (after E C (emptyTable E n) requests)) (logged C k (emptyTable E n) nothing requests)
 
-  -- What one request must do for that, over any table: the laws that an end shows of its own control
+  -- ---- what one request must do for that, over any table: the laws that an end shows of its own control
+
+  -- an opening that is done: the key was not on record, a record was empty, and the first such holds the new call, with number 1; nothing is sent
   pub record Opened (ys : List (E .Record)) (k : ℕ) (r : Reply E) : Type 0 where
     pub call : E .Record
-    pub sound : E .key call ≡ k
+    pub own : E .key call ≡ k
     pub free : onRecord (E .key) 0 ys ≡ true
     pub new : onRecord (E .key) k ys ≡ false
     pub stored : r .table ≡ replacedFor (E .key) 0 call ys
     pub first : E .last call ≡ 1
     pub holds : E .held call ≡ 1 ∷ []
+    pub quiet : r .signals ≡ E .silent
 
   -- the call lives, and its last number stays or grows by one; or its record is emptied
   abbrev pub Lives : ℕ → E .Record → E .Record → Type 0
   Lives k before now = ((E .key now ≡ k) × ((E .last now ≡ E .last before) ⊎ (E .last now ≡ suc (E .last before)))) ⊎ (now ≡ E .empty)
 
+  -- an event that is done: the record of the key becomes another, and what was held and given is held or ended
   pub record Met (ys : List (E .Record)) (k : ℕ) (e : E .Event) (r : Reply E) : Type 0 where
     pub call : E .Record
     pub known : onRecord (E .key) k ys ≡ true
     pub stored : r .table ≡ replacedFor (E .key) k call ys
-    pub lives : Lives k (callOf k ys) call
+    pub lives : Lives k (callOf E k ys) call
     pub balances : (x : ℕ) →
-        count x (E .held (callOf k ys)) + count x (givenBy (callOf k ys) call) ≡ count x (E .held call) + count x (endedBy e r)
+        count x (E .held (callOf E k ys)) + count x (givenBy (callOf E k ys) call) ≡ count x (E .held call) + count x (endedBy e r)
+    pub asks : (x : ℕ) → 1 ≤ x → count x (E .requested (r .signals)) ≤ count x (givenBy (callOf E k ys) call)
 
   pub record Lawful (C : Control E) : Type 0 where
     pub unused : E .key (E .empty) ≡ 0
     pub spent : E .last (E .empty) ≡ 0
     pub nothing-held : E .held (E .empty) ≡ []
-    pub refused : (ys : List (E .Record)) (a : Asked E) → (C ys a .answer ≡ 0 → ⊥) → C ys a .table ≡ ys
-    pub named : (ys : List (E .Record)) (a : Asked E) → C ys a .answer ≡ 0 → a .key ≡ 0 → ⊥
-    pub apart : (ys : List (E .Record)) (a : Asked E) → C ys a .answer ≡ 0 → (i j : ℕ) → i < j → j < length ys →
-        E .key (getD ys i (E .empty)) ≡ E .key (getD ys j (E .empty)) → E .key (getD ys i (E .empty)) ≡ 0
+    pub nothing-released : E .released (E .silent) ≡ []
+    pub nothing-requested : E .requested (E .silent) ≡ []
+    pub refused : RefusalsAreSilent E C
     pub opened : (ys : List (E .Record)) (k : ℕ) (w : E .Wanted) → C ys (record { key = k; does = opens w }) .answer ≡ 0 → Opened ys k (C ys (record { key = k; does = opens w }))
     pub met : (ys : List (E .Record)) (k : ℕ) (e : E .Event) → C ys (record { key = k; does = meets e }) .answer ≡ 0 → Met ys k e (C ys (record { key = k; does = meets e }))
 

@@ -1,4 +1,4 @@
-pub mod Keyed
 pub mod Run
 pub mod Woven
+pub mod Late
 pub mod Account

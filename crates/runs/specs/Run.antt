@@ -1,20 +1,25 @@
 -- One end of a call, as far as runs and the account of connection numbers need it; a control over a table of such calls; and its runs. Assumes nothing.
 use Prim.Native.Nat.{ℕ}
+use mathlib.Core.Path.{_≡_}
 use mathlib.Core.List.{List, [], _∷_}
 use lib.ListN.{replicate}
-use Rattle.signal.specs.declared.Signal.{Signal}
+use Rattle.lent.specs.Keyed.{recordOf}
 
--- the records, openings and events of an end; of a record, its key, the last connection number given, and the connections that its state holds; of an event, the
--- connections whose release it reports
+-- The records, openings, events and signals of an end. Of a record: its key, the last connection number given, and the connections that its state holds. Of an event: the connections whose release it
+-- reports. Of what is sent: the connections that are released, and those that are asked for by a setup; and what stands for nothing sent
 pub record End : Type 1 where
   pub Record : Type 0
   pub Wanted : Type 0
   pub Event : Type 0
+  pub Signals : Type 0
   pub empty : Record
   pub key : Record → ℕ
   pub last : Record → ℕ
   pub held : Record → List ℕ
   pub reported : Event → List ℕ
+  pub silent : Signals
+  pub released : Signals → List ℕ
+  pub requested : Signals → List ℕ
 
 -- what is done with a key: a call is opened, or an event meets it
 pub data Does (Opening Happening : Type 0) : Type 0 where
@@ -28,7 +33,7 @@ pub record Asked (E : End) : Type 0 where
 -- what a control makes of a table and a request: the answer's number, the signals, and the table afterwards
 pub record Reply (E : End) : Type 0 where
   pub answer : ℕ
-  pub signals : List Signal
+  pub signals : E .Signals
   pub table : List (E .Record)
 
 abbrev pub Control : End → Type 0
@@ -45,6 +50,15 @@ module _ (E : End) (C : Control E) where
   after ys [] = ys
   after ys (a ∷ more) = after (C ys a .table) more
 
+  -- A refusal changes no record and sends no signal, over any table.
+  abbrev pub RefusalsAreSilent : Type 0
+  RefusalsAreSilent =
+      (ys : List (E .Record)) (a : Asked E) → (C ys a .answer ≡ 0 → ⊥) → (C ys a .table ≡ ys) × (C ys a .signals ≡ E .silent)
+
 -- an empty table of n records
 abbrev pub emptyTable : (E : End) → ℕ → List (E .Record)
 emptyTable E n = replicate n (E .empty)
+
+-- the call of a key, and the empty record where none has it
+abbrev pub callOf : (E : End) → ℕ → List (E .Record) → E .Record
+callOf E k ys = recordOf (E .key) (E .empty) k ys

@@ -1,18 +1,17 @@
 -- Each number of refusal is given exactly when its check applies and no earlier one does (specs/Claims), proved. Assumes nothing.
-use Prim.Native.Nat.{ℕ, zero, suc, _≤_, _<_, zero-le, suc-le-suc}
+use Prim.Native.Nat.{ℕ, suc, zero-le, suc-le-suc}
 use mathlib.Core.Path.{_≡_, refl, sym, _∙_, subst}
 use mathlib.Core.Bool.{Bool, true, false, not, _||_, cond, true≢false, false≢true}
 use mathlib.Core.List.{List, [], _∷_}
 use mathlib.Core.Logic.{_⊎_, inl, inr}
 use lib.Dec.{eqb, leb}
-use lib.ListN.{length, getD, drop}
+use lib.ListN.{drop}
 use borrow.Author.Tests.{eqb-true, eqb-false, not-true, not-false, leb-true, le-leb}
 use Rattle.signal.specs.Numbers.{answerNumber}
 use Rattle.signal.specs.declared.Wanted.{Wanted}
 use Rattle.source_states.specs.declared.Event.{Event}
 use Rattle.source_states.specs.Checks.{meaningless, namesNotHeld, asksNumber}
 use Rattle.source.specs.declared.Call.{Call}
-use Rattle.source.specs.Record.{emptied}
 use Rattle.source.specs.Events.{eventOf}
 use Rattle.source.specs.Claims.{IsMeaningless, NamesNotHeld, HasNoNumber}
 use Rattle.source.proofs.Claims.{given-106, given-107, given-108, given-0}

@@ -3,11 +3,12 @@
 -- Stored.antt, Claims.antt, Given.antt and Kept.antt. Assumes nothing.
 use Prim.Native.Nat.{ℕ, _≤_, _<_}
 use mathlib.Core.Path.{_≡_}
-use mathlib.Core.Bool.{Bool, true, false, not, _||_, cond}
+use mathlib.Core.Bool.{Bool, true, false, not, cond}
 use mathlib.Core.List.{List, [], _∷_}
 use mathlib.Core.Logic.{_↔_, _⊎_}
 use lib.Dec.{eqb}
 use lib.ListN.{length, getD, set}
+use Rattle.lent.specs.Keyed as keyed
 use Rattle.signal.specs.declared.Wanted.{Wanted}
 use Rattle.signal.specs.Signals.{places}
 use Rattle.signal.specs.Numbers.{answerNumber}
@@ -45,12 +46,10 @@ FitExactly = (ys : List Call) → (fitTable ys ≡ true) ↔ FitTable ys
 
 -- a key stands on record, and the call that it names (the first, which in a fit table is the only one)
 abbrev pub onRecord : ℕ → List Call → Bool
-onRecord k [] = false
-onRecord k (c ∷ cs) = eqb (c .key) k || onRecord k cs
+onRecord k ys = keyed.onRecord (λ c. c .key) k ys
 
 abbrev pub callOf : ℕ → List Call → Call
-callOf k [] = emptied
-callOf k (c ∷ cs) = cond (eqb (c .key) k) c (callOf k cs)
+callOf k ys = keyed.recordOf (λ c. c .key) emptied k ys
 
 -- 01, "Numbers of refusal", in the printed order. An opening: 103 where the key is on record, 104 where no record is empty. An event: 105 where the key is not on
 -- record, then what the record of the key answers (106 to 108, or 0)
@@ -136,8 +135,7 @@ FoundAnywhere = (ys : List Call) (i : ℕ) → i < length ys → onRecord (getD 
 
 -- the first record with a key replaced by another, and every other record as it was
 abbrev pub replacedFor : ℕ → Call → List Call → List Call
-replacedFor k d [] = []
-replacedFor k d (c ∷ cs) = cond (eqb (c .key) k) (d ∷ cs) (c ∷ replacedFor k d cs)
+replacedFor k d ys = keyed.replacedFor (λ c. c .key) k d ys
 
 -- 01, "The table and its records"; "Numbers of refusal", 0: an event that is done turns the record of its key into what the event makes of that call, leaves
 -- every other record, and sends what that call sends.

@@ -1,4 +1,4 @@
--- A table of records with keys, of any type. Assumes nothing.
+-- A table of records with keys, of any type: whether a key stands in it, whose record it is, and that record replaced. Assumes nothing.
 use Prim.Native.Nat.{ℕ}
 use mathlib.Core.Bool.{Bool, false, _||_, cond}
 use mathlib.Core.List.{List, [], _∷_}
