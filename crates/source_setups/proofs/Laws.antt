@@ -47,20 +47,28 @@ module _ (hard : Bool) (remote : ℕ) (code : Switchover) (number : ℕ) where
   old next (SoftInitiated i r) p q = simp (p, q) (search (arith, p, q))
   old next (Awaiting i r) p q = simp (p, q) (search (arith, p, q))
 
-  not-clearing : (next : Fresh) (s : State) → isClearing code ≡ false → Met next s
-  not-clearing next Null p = search arith
-  not-clearing next (Idle i) p = simp p (search (arith, p))
-  not-clearing next HardTriggered p = simp p (search (arith, p))
-  not-clearing next (HardProceeding r) p = simp p (search (arith, p))
-  not-clearing next (SoftTriggered i) p = simp p (search (arith, p))
-  not-clearing next (SoftProceeding i r) p = simp p (search (arith, p))
-  not-clearing next (SoftInitiated i r) p = simp p (search (arith, p))
-  not-clearing next (Awaiting i r) p = simp p (search (arith, p))
+  -- whether the number is old or not: row 1 comes first
+  not-clearing : (next : Fresh) (s : State) (d : Bool) → isClearing code ≡ false → isLate number remote ≡ d → Met next s
+  not-clearing next Null d p q = search arith
+  not-clearing next (Idle i) true p q = simp (p, q) (search (arith, p, q))
+  not-clearing next (Idle i) false p q = simp (p, q) (search (arith, p, q))
+  not-clearing next HardTriggered true p q = simp (p, q) (search (arith, p, q))
+  not-clearing next HardTriggered false p q = simp (p, q) (search (arith, p, q))
+  not-clearing next (HardProceeding r) true p q = simp (p, q) (search (arith, p, q))
+  not-clearing next (HardProceeding r) false p q = simp (p, q) (search (arith, p, q))
+  not-clearing next (SoftTriggered i) true p q = simp (p, q) (search (arith, p, q))
+  not-clearing next (SoftTriggered i) false p q = simp (p, q) (search (arith, p, q))
+  not-clearing next (SoftProceeding i r) true p q = simp (p, q) (search (arith, p, q))
+  not-clearing next (SoftProceeding i r) false p q = simp (p, q) (search (arith, p, q))
+  not-clearing next (SoftInitiated i r) true p q = simp (p, q) (search (arith, p, q))
+  not-clearing next (SoftInitiated i r) false p q = simp (p, q) (search (arith, p, q))
+  not-clearing next (Awaiting i r) true p q = simp (p, q) (search (arith, p, q))
+  not-clearing next (Awaiting i r) false p q = simp (p, q) (search (arith, p, q))
 
   symmetric : (next : Fresh) (s : State) (b d : Bool) → isClearing code ≡ b → isLate number remote ≡ d → Met next s
   symmetric next s true true p q = old next s p q
   symmetric next s true false p q = in-state next s p q
-  symmetric next s false d p q = not-clearing next s p
+  symmetric next s false d p q = not-clearing next s d p q
 
   without : (soft : Soft) (next : Fresh) → hasSymmetric soft ≡ false → (s : State) → Lawful hard soft remote next s (Setup code number) (refuses NoMeaning)
   without soft next p Null = search arith
