@@ -1,0 +1,8 @@
+-- The public functions of event_record have one possible answer each. Assumes nothing.
+use mathlib.Core.Path.{refl}
+use Rattle.one_answer.specs.One.{OneAnswer}
+use Rattle.one_answer.proofs.Law.{facts, result}
+use Rattle.event_record.proofs.decode as decode
+
+pub decode-has-one-answer : {M : Type 1} → OneAnswer M decode.ended decode.clauses decode.spec
+decode-has-one-answer 𝓤 _ _ _ _ = (refl, λ _ _ _ _ _ _ _ _. facts 𝓤 result)

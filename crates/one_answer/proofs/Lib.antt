@@ -1,0 +1,15 @@
+pub mod Law
+pub mod Distinct
+pub mod Lines
+pub mod Signal
+pub mod SignalWords
+pub mod SourceStates
+pub mod SourceRequests
+pub mod SourceConnects
+pub mod SourceSetups
+pub mod SourceReleases
+pub mod SourceEndings
+pub mod Source
+pub mod SourceWords
+pub mod SourceTable
+pub mod EventRecord
