@@ -10,8 +10,10 @@
 //! | `cells` | every cell of one call, printed |
 //! | `table` | the table of records: fitness, openings, the event on a record |
 //! | `event_record` | an event in the 16 octets of the trace |
+//! | `cases` | cases of any form, read one by one |
 //! | `tables` | cases over a whole table, read and printed |
-//! | `make_tables` | cases over a whole table, made from a seed |
+//! | `draw`, `maker` | the numbers drawn from a seed, and cases of any form made from them |
+//! | `make_tables` | cases over a whole table, made |
 //!
 //! A call is treated by value: an event takes the old record and hands back the new one. The table
 //! finds the record and puts it back. The trace's own lines and the cause element are no part of
@@ -20,9 +22,12 @@
 #![forbid(unsafe_code)]
 
 mod call;
+mod cases;
 mod cells;
+mod draw;
 mod event_record;
 mod make_tables;
+mod maker;
 mod release_rows;
 mod rerouting_rows;
 mod table;
@@ -48,6 +53,8 @@ use std::ffi::OsString;
 use std::io::{self, BufWriter, ErrorKind, Write};
 use std::process::ExitCode;
 
+use crate::maker::Maker;
+
 const USAGE: &str =
     "usage: oracle cells < letters, oracle tables < cases, oracle make-tables SEED COUNT [bad]";
 const USAGE_STATUS: u8 = 2;
@@ -60,15 +67,19 @@ fn main() -> ExitCode {
     match words.as_slice() {
         ["cells"] => status(cells::print(io::stdin().lock(), &mut out)),
         ["tables"] => status(tables::print(io::stdin().lock(), &mut out)),
-        ["make-tables", seed, count] => made(seed, count, false, &mut out),
-        ["make-tables", seed, count, "bad"] => made(seed, count, true, &mut out),
+        ["make-tables", asked @ ..] => made(&make_tables::MAKER, asked, &mut out),
         _ => usage(),
     }
 }
 
-fn made(seed: &str, count: &str, last_is_bad: bool, out: &mut impl Write) -> ExitCode {
+fn made(maker: &Maker, asked: &[&str], out: &mut impl Write) -> ExitCode {
+    let (seed, count, last_is_bad) = match asked {
+        [seed, count] => (seed, count, false),
+        [seed, count, "bad"] => (seed, count, true),
+        _ => return usage(),
+    };
     match (seed.parse(), count.parse()) {
-        (Ok(seed), Ok(count)) => status(make_tables::write(seed, count, last_is_bad, out)),
+        (Ok(seed), Ok(count)) => status(maker.write(seed, count, last_is_bad, out)),
         _ => usage(),
     }
 }

@@ -1,9 +1,7 @@
-//! Cases for a comparison over whole tables, made from a seed: the same seed makes the same cases,
-//! on every machine.
+//! Cases for a comparison over whole tables.
 //!
 //! | Module | What it holds |
 //! |---|---|
-//! | `draw` | the numbers drawn |
 //! | `records` | tables, fit and damaged |
 //! | `events` | the event that a table meets |
 //! | `bad` | the ways in which a case is bad |
@@ -11,19 +9,17 @@
 //! Most tables are small, some have 64 records, and about one in 500 stands at the edge of 1,024.
 
 mod bad;
-mod draw;
 mod events;
 mod records;
 
 #[cfg(test)]
 mod tests;
 
-use std::io::{Result, Write};
-
-use self::draw::Draw;
 use self::events::event;
 use self::records::{MadeTable, DAMAGES};
+use crate::draw::Draw;
 use crate::event_record::EVENT_OCTETS;
+use crate::maker::Maker;
 use crate::tables::RECORD_OCTETS;
 
 /// A case in octets.
@@ -40,19 +36,7 @@ impl MadeCase {
     }
 }
 
-/// Writes so many cases, the last of them bad if that is asked; the others are the same either way.
-pub fn write(seed: u64, count: u64, last_is_bad: bool, out: &mut impl Write) -> Result<()> {
-    let mut draw = Draw::from_seed(seed);
-    for number in 1..=count {
-        let octets = if last_is_bad && number == count {
-            bad::case(seed, &mut draw)
-        } else {
-            case(&mut draw).octets()
-        };
-        out.write_all(&octets)?;
-    }
-    out.flush()
-}
+pub const MAKER: Maker = Maker { case: |draw| case(draw).octets(), bad_case: bad::case };
 
 fn case(draw: &mut Draw) -> MadeCase {
     let count = record_count(draw);

@@ -1,9 +1,9 @@
-//! Cases over a whole table, in the form of docs/TABLES.md: each is read, carried out and printed
-//! before the next, and no more than one is kept.
+//! Cases over a whole table, in the form of docs/TABLES.md, read, carried out and printed.
 
-use std::io::{BufRead, ErrorKind, Read, Result, Write};
+use std::io::{BufRead, Read, Result, Write};
 
 use crate::call::{Call, Soft, State};
+use crate::cases::{octets, print_each};
 use crate::event_record::{decode, flag, EventRecord};
 use crate::table;
 use crate::words::SignalWords;
@@ -19,29 +19,13 @@ struct Case {
     event: EventRecord,
 }
 
-/// What stands next in the input.
-enum Next {
-    Case(Case),
-    Bad,
-    End,
-}
-
 /// Prints the answer, the signals and the table after each case; a `bad` one ends the run.
-pub fn print(mut cases: impl BufRead, out: &mut impl Write) -> Result<()> {
+pub fn print(cases: impl BufRead, out: &mut impl Write) -> Result<()> {
     let mut counted: u64 = 0;
-    loop {
-        match next(&mut cases)? {
-            Next::Case(case) => {
-                counted += 1;
-                print_case(counted, case, out)?;
-            }
-            Next::Bad => {
-                writeln!(out, "bad")?;
-                return out.flush();
-            }
-            Next::End => return out.flush(),
-        }
-    }
+    print_each(cases, out, case_after, |case, out| {
+        counted += 1;
+        print_case(counted, case, out)
+    })
 }
 
 fn print_case(number: u64, case: Case, out: &mut impl Write) -> Result<()> {
@@ -53,15 +37,6 @@ fn print_case(number: u64, case: Case, out: &mut impl Write) -> Result<()> {
         writeln!(out, "{call}")?;
     }
     Ok(())
-}
-
-/// Input that ends before a case's first octet ends the run; anywhere later the case is cut short.
-fn next(input: &mut impl Read) -> Result<Next> {
-    let Some([first]) = octets(input)? else { return Ok(Next::End) };
-    match case_after(first, input)? {
-        Some(case) => Ok(Next::Case(case)),
-        None => Ok(Next::Bad),
-    }
 }
 
 /// The case whose count begins with that octet, or nothing where it is `bad`.
@@ -80,16 +55,6 @@ fn case_after(first: u8, input: &mut impl Read) -> Result<Option<Case>> {
     }
     let event = octets(input)?.and_then(|octets| decode(&octets));
     Ok(event.map(|event| Case { table, event }))
-}
-
-/// So many octets, or nothing where the input ends before the last of them.
-fn octets<const COUNT: usize>(input: &mut impl Read) -> Result<Option<[u8; COUNT]>> {
-    let mut octets = [0; COUNT];
-    match input.read_exact(&mut octets) {
-        Ok(()) => Ok(Some(octets)),
-        Err(failure) if failure.kind() == ErrorKind::UnexpectedEof => Ok(None),
-        Err(failure) => Err(failure),
-    }
 }
 
 /// One record, or nothing where a value is not named. A connection that the state does not hold is

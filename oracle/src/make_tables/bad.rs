@@ -1,9 +1,9 @@
 //! The ways in which a case is bad: each way that docs/TABLES.md names, and for values each octet
 //! that can hold one that is not named.
 
-use super::draw::Draw;
 use super::events::event_of_kind;
 use super::{record_count, table, MadeCase};
+use crate::draw::Draw;
 use crate::tables::RECORD_OCTETS;
 
 const COUNT_OCTETS: usize = 2;
@@ -101,7 +101,7 @@ fn with_count_too_great(draw: &mut Draw) -> Vec<u8> {
 fn with_record_value(draw: &mut Draw, unnamed: Unnamed) -> Vec<u8> {
     let mut case = whole_case(draw, 0);
     let place = draw.place(case.records.len());
-    case.records[place][unnamed.octet] = unnamed_value(draw, unnamed);
+    case.records[place][unnamed.octet] = draw.octet_from(unnamed.lowest);
     case.octets()
 }
 
@@ -113,13 +113,8 @@ fn with_event_value(draw: &mut Draw, kind: u8, unnamed: Unnamed) -> Vec<u8> {
         case.event[2] = draw.among([0, 1]);
         case.event[3] = draw.among([0, 1, 2]);
     }
-    case.event[unnamed.octet] = unnamed_value(draw, unnamed);
+    case.event[unnamed.octet] = draw.octet_from(unnamed.lowest);
     case.octets()
-}
-
-fn unnamed_value(draw: &mut Draw, unnamed: Unnamed) -> u8 {
-    let above = draw.below(256 - usize::from(unnamed.lowest)) as u8;
-    draw.among([unnamed.lowest, unnamed.lowest + above, 255])
 }
 
 /// A case that ends where `kept` says, of the octets that its records take.

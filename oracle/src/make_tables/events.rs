@@ -1,9 +1,9 @@
 //! The event that a made table meets, in the 16 octets of 01, "The trace". Most events name a key
 //! on record, so that the call itself answers, and mostly a connection that this call holds.
 
-use super::draw::Draw;
 use super::records::MadeTable;
 use crate::call::{Call, State};
+use crate::draw::Draw;
 use crate::event_record::EVENT_OCTETS;
 
 const OPENING: u8 = 0;

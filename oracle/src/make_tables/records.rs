@@ -1,8 +1,8 @@
 //! Tables: fit ones, and ones damaged in each way that 101 names of records. (The way that it names
 //! of the whole table, over 1,024 records, is a matter of the count.)
 
-use super::draw::Draw;
 use crate::call::{Call, Soft, State};
+use crate::draw::Draw;
 use crate::tables::RECORD_OCTETS;
 
 /// Keys that share their low octets with small ones, or with each other.

@@ -2,11 +2,11 @@
 //! where and only where that is asked; and what the table promises over all of them.
 
 use super::bad::WAY_COUNT;
-use super::draw::Draw;
 use super::events::event;
 use super::records::{Damage, MadeTable, DAMAGES};
-use super::{record_count, table, write};
+use super::{record_count, table, MAKER};
 use crate::call::Call;
+use crate::draw::Draw;
 use crate::event_record::decode;
 use crate::table::{meet, unfit, Request, CAUSES_OF_UNFITNESS};
 use crate::tables;
@@ -33,9 +33,7 @@ fn causes(table: &MadeTable) -> Vec<usize> {
 }
 
 fn made(seed: u64, count: u64, last_is_bad: bool) -> Vec<u8> {
-    let mut octets = Vec::new();
-    write(seed, count, last_is_bad, &mut octets).expect("a vector takes every byte");
-    octets
+    MAKER.made(seed, count, last_is_bad)
 }
 
 fn printed(octets: &[u8]) -> String {

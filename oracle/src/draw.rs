@@ -1,4 +1,4 @@
-//! The numbers drawn: xorshift64*, whose state is never 0.
+//! The numbers that made cases are drawn from: xorshift64*, whose state is never 0.
 
 pub struct Draw {
     state: u64,
@@ -23,6 +23,12 @@ impl Draw {
 
     pub fn octet(&mut self) -> u8 {
         (self.word() >> 24) as u8
+    }
+
+    /// An octet from the lowest up: the lowest itself, any, or 255.
+    pub fn octet_from(&mut self, lowest: u8) -> u8 {
+        let above = self.below(256 - usize::from(lowest)) as u8;
+        self.among([lowest, lowest + above, 255])
     }
 
     /// A number from 0 up to the limit less 1; 0 under the limit 0.
