@@ -31,6 +31,14 @@ pub fn octets<const COUNT: usize>(input: &mut impl Read) -> Result<Option<[u8; C
     Ok(filled(&mut octets, input)?.then_some(octets))
 }
 
+/// A string behind its length of two octets, big-endian, or nothing where the input ends before the
+/// last of its octets.
+pub fn string(input: &mut impl Read) -> Result<Option<Vec<u8>>> {
+    let Some(length) = octets(input)? else { return Ok(None) };
+    let mut string = vec![0; usize::from(u16::from_be_bytes(length))];
+    Ok(filled(&mut string, input)?.then_some(string))
+}
+
 /// Whether the input had octets enough.
 fn filled(octets: &mut [u8], input: &mut impl Read) -> Result<bool> {
     match input.read_exact(octets) {

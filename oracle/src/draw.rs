@@ -25,6 +25,10 @@ impl Draw {
         (self.word() >> 24) as u8
     }
 
+    pub fn octets(&mut self, count: usize) -> Vec<u8> {
+        (0..count).map(|_| self.octet()).collect()
+    }
+
     /// An octet from the lowest up: the lowest itself, any, or 255.
     pub fn octet_from(&mut self, lowest: u8) -> u8 {
         let above = self.below(256 - usize::from(lowest)) as u8;

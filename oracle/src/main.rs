@@ -14,10 +14,12 @@
 //! | `tables` | cases over a whole table, read and printed |
 //! | `draw`, `maker` | the numbers drawn from a seed, and cases of any form made from them |
 //! | `make_tables` | cases over a whole table, made |
+//! | `element` | the cause element sent on, a part of a string lent |
+//! | `elements` | cases of the cause element, read and printed |
+//! | `make_elements` | cases of the cause element, made |
 //!
 //! A call is treated by value: an event takes the old record and hands back the new one. The table
-//! finds the record and puts it back. The trace's own lines and the cause element are no part of
-//! these modules.
+//! finds the record and puts it back. The trace's own lines are no part of these modules.
 
 #![forbid(unsafe_code)]
 
@@ -25,7 +27,10 @@ mod call;
 mod cases;
 mod cells;
 mod draw;
+mod element;
+mod elements;
 mod event_record;
+mod make_elements;
 mod make_tables;
 mod maker;
 mod release_rows;
@@ -39,6 +44,10 @@ mod words;
 mod bench_run;
 #[cfg(test)]
 mod case_text;
+#[cfg(test)]
+mod element_promises;
+#[cfg(test)]
+mod element_text;
 #[cfg(test)]
 mod event_values;
 #[cfg(test)]
@@ -56,7 +65,8 @@ use std::process::ExitCode;
 use crate::maker::Maker;
 
 const USAGE: &str =
-    "usage: oracle cells < letters, oracle tables < cases, oracle make-tables SEED COUNT [bad]";
+    "usage: oracle cells < letters, oracle tables < cases, oracle elements < cases, \
+    oracle make-tables SEED COUNT [bad], oracle make-elements SEED COUNT [bad]";
 const USAGE_STATUS: u8 = 2;
 
 fn main() -> ExitCode {
@@ -67,7 +77,9 @@ fn main() -> ExitCode {
     match words.as_slice() {
         ["cells"] => status(cells::print(io::stdin().lock(), &mut out)),
         ["tables"] => status(tables::print(io::stdin().lock(), &mut out)),
+        ["elements"] => status(elements::print(io::stdin().lock(), &mut out)),
         ["make-tables", asked @ ..] => made(&make_tables::MAKER, asked, &mut out),
+        ["make-elements", asked @ ..] => made(&make_elements::MAKER, asked, &mut out),
         _ => usage(),
     }
 }
