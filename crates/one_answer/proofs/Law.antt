@@ -30,3 +30,7 @@ result-and-lent e p q = (same (p .0) (q .0), pairs (same (p .1) (q .1)) e)
 -- one equation for the buffer at exit and the place answered, as a page
 pub paged : {L : Type 0} {r s : ℕ} {x : Page} {left other : List ℕ × L} → left .1 ≡ other .1 → page (left .0) r ≡ x → page (other .0) s ≡ x → (r ≡ s) × (left ≡ other)
 paged e p q = (ap (λ (x : Page). x .at) (same p q), pairs (ap (λ (x : Page). x .bytes) (same p q)) e)
+
+-- one equation for what a part holds and one for where it stands; nothing is lent to be written
+pub part : {A P L : Type 0} {r s x : A} {p q y : P} {left : L} → (r ≡ x) × (p ≡ y) → (s ≡ x) × (q ≡ y) → ((p ≡ q) × (r ≡ s)) × (left ≡ left)
+part a b = ((same (a .1) (b .1), same (a .0) (b .0)), refl)

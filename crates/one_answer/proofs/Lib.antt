@@ -13,3 +13,4 @@ pub mod Source
 pub mod SourceWords
 pub mod SourceTable
 pub mod EventRecord
+pub mod CauseElement
