@@ -37,6 +37,52 @@ pub fn decode(octets: &[u8; EVENT_OCTETS]) -> Option<EventRecord> {
     Some(EventRecord { key, request })
 }
 
+/// The octets of an event; those that its kind does not use are 0.
+pub fn encode(event: &EventRecord) -> [u8; EVENT_OCTETS] {
+    let ([kind, first, second, third], number) = match event.request {
+        Request::Opening(None) => ([0; 4], 0),
+        Request::Opening(Some(Services { hard, soft })) => {
+            ([0, 1, u8::from(hard), soft.number()], 0)
+        }
+        Request::Event(event) => event_values(event),
+    };
+    let [k0, k1, k2, k3] = event.key.to_be_bytes();
+    let [n0, n1, n2, n3] = number.to_be_bytes();
+    [kind, first, second, third, k0, k1, k2, k3, n0, n1, n2, n3, 0, 0, 0, 0]
+}
+
+/// The octets 0 to 3, and the number of the octets 8 to 11.
+fn event_values(event: Event) -> ([u8; 4], u32) {
+    match event {
+        Event::Trigger => ([1, 0, 0, 0], 0),
+        Event::PathFound => ([2, 0, 0, 0], 0),
+        Event::NoPath => ([3, 0, 0, 0], 0),
+        Event::Connect { connection, policy } => {
+            ([4, u8::from(policy == Policy::Yes), 0, 0], u32::from(connection))
+        }
+        Event::Setup { switchover: SwitchoverCode(code), number } => ([5, code, 0, 0], number),
+        Event::CallingRelease { cause } => (release_octets(6, cause, Crankback::None), 0),
+        Event::CalledRelease(CalledRelease { connection, cause, crankback }) => {
+            (release_octets(7, cause, crankback), u32::from(connection))
+        }
+        Event::Ready => ([8, 0, 0, 0], 0),
+        Event::TimerExpiry => ([9, 0, 0, 0], 0),
+    }
+}
+
+fn release_octets(kind: u8, cause: Option<ReroutingCause>, crankback: Crankback) -> [u8; 4] {
+    let [present, number] = match cause {
+        None => [0, 0],
+        Some(ReroutingCause(number)) => [1, number],
+    };
+    let crankback_number = match crankback {
+        Crankback::None => 0,
+        Crankback::AlternateFound => 1,
+        Crankback::NoneFound => 2,
+    };
+    [kind, present, number, crankback_number]
+}
+
 /// "byte 1 is 0 for default services (bytes 2 and 3 then not read) or 1 for named, byte 2 hard 0 or
 /// 1, byte 3 soft 0 to 2"
 fn services(named: u8, hard: u8, soft: u8) -> Option<Option<Services>> {

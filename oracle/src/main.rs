@@ -9,7 +9,11 @@
 //! | `words` | records, events and signals in words |
 //! | `cells` | every cell of one call, printed |
 //! | `table` | the table of records: fitness, openings, the event on a record |
-//! | `event_record` | an event in the 16 octets of the trace |
+//! | `event_record`, `event_fault` | an event in the 16 octets of the trace, and why one is bad |
+//! | `record_input`, `trace_table` | such events read one by one, and the table of 64 that they meet |
+//! | `number_line` | a line of decimal numbers |
+//! | `trace`, `watch` | the lines of the trace, and the same with signals |
+//! | `script`, `list` | readable lines into event records, and back |
 //! | `cases` | cases of any form, read one by one |
 //! | `tables` | cases over a whole table, read and printed |
 //! | `draw`, `maker` | the numbers drawn from a seed, and cases of any form made from them |
@@ -19,7 +23,7 @@
 //! | `make_elements` | cases of the cause element, made |
 //!
 //! A call is treated by value: an event takes the old record and hands back the new one. The table
-//! finds the record and puts it back. The trace's own lines are no part of these modules.
+//! finds the record and puts it back.
 
 #![forbid(unsafe_code)]
 
@@ -29,19 +33,29 @@ mod cells;
 mod draw;
 mod element;
 mod elements;
+mod event_fault;
 mod event_record;
+mod list;
 mod make_elements;
 mod make_tables;
 mod maker;
+mod number_line;
+mod record_input;
 mod release_rows;
 mod rerouting_rows;
+mod script;
 mod table;
 mod tables;
+mod trace;
+mod trace_table;
 mod vocabulary;
+mod watch;
 mod words;
 
 #[cfg(test)]
 mod bench_run;
+#[cfg(test)]
+mod bench_text;
 #[cfg(test)]
 mod case_text;
 #[cfg(test)]
@@ -51,11 +65,15 @@ mod element_text;
 #[cfg(test)]
 mod event_values;
 #[cfg(test)]
+mod list_text;
+#[cfg(test)]
 mod promises;
 #[cfg(test)]
 mod table_refusals;
 #[cfg(test)]
 mod table_run;
+#[cfg(test)]
+mod trace_text;
 
 use std::env;
 use std::ffi::OsString;
@@ -66,18 +84,26 @@ use crate::maker::Maker;
 
 const USAGE: &str =
     "usage: oracle cells < letters, oracle tables < cases, oracle elements < cases, \
+    oracle trace < records, oracle watch < records, oracle script < lines, oracle list < records, \
     oracle make-tables SEED COUNT [bad], oracle make-elements SEED COUNT [bad]";
 const USAGE_STATUS: u8 = 2;
+
+/// How much is written at once.
+const OUTPUT_OCTETS: usize = 256 * 1_024;
 
 fn main() -> ExitCode {
     let arguments: Vec<OsString> = env::args_os().skip(1).collect();
     // An argument that is no text names nothing.
     let words: Vec<&str> = arguments.iter().map(|word| word.to_str().unwrap_or("")).collect();
-    let mut out = BufWriter::new(io::stdout().lock());
+    let mut out = BufWriter::with_capacity(OUTPUT_OCTETS, io::stdout().lock());
     match words.as_slice() {
         ["cells"] => status(cells::print(io::stdin().lock(), &mut out)),
         ["tables"] => status(tables::print(io::stdin().lock(), &mut out)),
         ["elements"] => status(elements::print(io::stdin().lock(), &mut out)),
+        ["trace"] => status(trace::print(io::stdin().lock(), &mut out)),
+        ["watch"] => status(watch::print(io::stdin().lock(), &mut out)),
+        ["script"] => told(script::print(io::stdin().lock(), &mut out)),
+        ["list"] => told(list::print(io::stdin().lock(), &mut out)),
         ["make-tables", asked @ ..] => made(&make_tables::MAKER, asked, &mut out),
         ["make-elements", asked @ ..] => made(&make_elements::MAKER, asked, &mut out),
         _ => usage(),
@@ -110,6 +136,18 @@ fn status(printed: io::Result<()>) -> ExitCode {
             complain(&failure.to_string());
             ExitCode::FAILURE
         }
+    }
+}
+
+/// A program that may hand back a complaint of its own, which then is its one line.
+fn told(printed: io::Result<Option<String>>) -> ExitCode {
+    match printed {
+        Ok(Some(complaint)) => {
+            let _ = writeln!(io::stderr(), "{complaint}");
+            ExitCode::FAILURE
+        }
+        Ok(None) => ExitCode::SUCCESS,
+        Err(failure) => status(Err(failure)),
     }
 }
 

@@ -1,0 +1,68 @@
+//! Readable lines into event records, in the form of docs/BENCH.md.
+//!
+//! | Module | What it holds |
+//! |---|---|
+//! | `line` | the words of a line |
+//! | `event` | the event that they name |
+
+mod event;
+mod line;
+
+#[cfg(test)]
+mod tests;
+
+use std::io::{Read, Result, Write};
+
+use self::event::event;
+use self::line::Line;
+use crate::event_record::encode;
+
+/// What follows the records before a line that names no event: too short for a record, and no
+/// event's number, so that a trace of it ends in `bad`.
+const NO_EVENT: [u8; 1] = [255];
+
+/// Writes the record of each line. Where a line names no event the run ends, and the complaint is
+/// handed back.
+pub fn print(input: impl Read, out: &mut impl Write) -> Result<Option<String>> {
+    let mut line = Line::EMPTY;
+    let mut number: u64 = 1;
+    for octet in input.bytes() {
+        match octet? {
+            b'\n' => {
+                if let Some(expected) = write_line(&line, out)? {
+                    return complaint(number, expected, out);
+                }
+                line = Line::EMPTY;
+                number += 1;
+            }
+            other => line.put(other),
+        }
+    }
+    // The last line may lack its end.
+    if let Some(expected) = write_line(&line, out)? {
+        return complaint(number, expected, out);
+    }
+    out.flush()?;
+    Ok(None)
+}
+
+fn complaint(number: u64, expected: &str, out: &mut impl Write) -> Result<Option<String>> {
+    out.write_all(&NO_EVENT)?;
+    out.flush()?;
+    Ok(Some(format!("script: line {number}: expected {expected}")))
+}
+
+/// Writes the record of a line, nothing for a line without words; hands back what was expected
+/// where the line names no event.
+fn write_line(line: &Line, out: &mut impl Write) -> Result<Option<&'static str>> {
+    if line.words().is_empty() {
+        return Ok(None);
+    }
+    match event(line.words()) {
+        Ok(event) => {
+            out.write_all(&encode(&event))?;
+            Ok(None)
+        }
+        Err(expected) => Ok(Some(expected)),
+    }
+}

@@ -1,0 +1,119 @@
+//! What the trace and the watch print where records are bad or cut short, where there is no such
+//! call, over a full table, and however the input comes in pieces.
+
+use std::io::{Read, Result};
+
+use crate::{trace, watch};
+
+const OPEN_7: [u8; 16] = [0, 1, 1, 2, 0, 0, 0, 7, 0, 0, 0, 0, 0, 0, 0, 0];
+const TRIGGER_7: [u8; 16] = [1, 9, 9, 9, 0, 0, 0, 7, 9, 9, 9, 9, 9, 9, 9, 9];
+const FIRST: &str = "line answer state incumbent rerouting number\n";
+const FIRST_WATCHED: &str = "line answer state incumbent rerouting number last signals\n";
+
+fn traced(input: impl Read) -> String {
+    let mut out = Vec::new();
+    trace::print(input, &mut out).expect("a vector takes every byte");
+    String::from_utf8(out).expect("lines are ASCII")
+}
+
+fn watched(input: impl Read) -> String {
+    let mut out = Vec::new();
+    watch::print(input, &mut out).expect("a vector takes every byte");
+    String::from_utf8(out).expect("lines are ASCII")
+}
+
+/// One good record, then the octets given, then a good record that is not read.
+fn bad_behind_one(octets: &[u8]) {
+    let behind = if octets.len() == 16 { &TRIGGER_7[..] } else { &[] };
+    let input = [&OPEN_7, octets, behind].concat();
+    assert_eq!(traced(input.as_slice()), format!("{FIRST}1 0 1 1 0 0\nbad\n"), "{octets:?}");
+    let line = format!("{FIRST_WATCHED}1 0 1 1 0 0 1 -\nbad\n");
+    assert_eq!(watched(input.as_slice()), line, "{octets:?}");
+}
+
+fn changed(octets: [u8; 16], place: usize, value: u8) -> [u8; 16] {
+    let mut changed = octets;
+    changed[place] = value;
+    changed
+}
+
+#[test]
+fn empty_input_prints_the_first_line() {
+    assert_eq!(traced(&[][..]), FIRST);
+    assert_eq!(watched(&[][..]), FIRST_WATCHED);
+}
+
+#[test]
+fn short_last_record_is_bad() {
+    for kept in 1..16 {
+        bad_behind_one(&TRIGGER_7[..kept]);
+        assert_eq!(traced(&OPEN_7[..kept]), format!("{FIRST}bad\n"));
+    }
+}
+
+#[test]
+fn bad_values_end_the_run() {
+    let connect = changed(changed(TRIGGER_7, 0, 4), 1, 2);
+    let far_connect = [4, 1, 0, 0, 0, 0, 0, 7, 0, 1, 0, 0, 0, 0, 0, 0];
+    let calling = [6, 0, 0, 3, 0, 0, 0, 7, 0, 0, 0, 0, 0, 0, 0, 0];
+    let called = [7, 2, 0, 0, 0, 0, 0, 7, 0, 0, 0, 1, 0, 0, 0, 0];
+    for bad in [connect, far_connect, calling, called, changed(OPEN_7, 3, 3), [10; 16]] {
+        bad_behind_one(&bad);
+    }
+    // Before the key is looked at (decision 23).
+    bad_behind_one(&changed(changed(OPEN_7, 7, 0), 1, 2));
+}
+
+/// Decision 25, and that a call comes back under its own key.
+#[test]
+fn calls_that_are_not_there_print_zeros() {
+    let calling_7 = [6, 0, 0, 0, 0, 0, 0, 7, 0, 0, 0, 0, 0, 0, 0, 0];
+    let key_0 = changed(TRIGGER_7, 7, 0);
+    let input = [TRIGGER_7, key_0, OPEN_7, OPEN_7, calling_7, TRIGGER_7, OPEN_7].concat();
+    let lines = "1 105 0 0 0 0\n2 102 0 0 0 0\n3 0 1 1 0 0\n4 103 1 1 0 0\n5 0 0 0 0 0\n\
+        6 105 0 0 0 0\n7 0 1 1 0 0\n";
+    assert_eq!(traced(input.as_slice()), format!("{FIRST}{lines}"));
+}
+
+#[test]
+fn opening_number_65_is_refused() {
+    let openings: Vec<u8> = (1..=65).flat_map(|key| changed(OPEN_7, 7, key)).collect();
+    let text = traced(openings.as_slice());
+    assert!(text.ends_with("\n64 0 1 1 0 0\n65 104 0 0 0 0\n"));
+    assert_eq!(text.matches(" 0 1 1 0 0\n").count(), 64);
+}
+
+/// Hands out so many octets at once.
+struct Pieces<'a>(&'a [u8], usize);
+
+impl Read for Pieces<'_> {
+    fn read(&mut self, buffer: &mut [u8]) -> Result<usize> {
+        let (piece, rest) = self.0.split_at(self.1.min(self.0.len()).min(buffer.len()));
+        buffer[..piece.len()].copy_from_slice(piece);
+        self.0 = rest;
+        Ok(piece.len())
+    }
+}
+
+#[test]
+fn pieces_of_any_size_print_the_same() {
+    let mut input = [OPEN_7, TRIGGER_7, changed(TRIGGER_7, 0, 2), OPEN_7].concat();
+    for _ in 0..2 {
+        let text = traced(input.as_slice());
+        for size in 1..=input.len() {
+            assert_eq!(traced(Pieces(&input, size)), text, "pieces of {size}");
+        }
+        input.pop();
+    }
+}
+
+/// More than the buffers hold.
+#[test]
+fn long_inputs_are_read_whole() {
+    let records = [OPEN_7, TRIGGER_7].concat().repeat(50_000);
+    let text = traced(records.as_slice());
+    assert_eq!(text.lines().count(), 100_001);
+    assert!(text.ends_with("\n99999 103 4 1 0 0\n100000 0 4 1 0 0\n"));
+    let cut = &records[..records.len() - 1];
+    assert!(traced(cut).ends_with("\n99999 103 4 1 0 0\nbad\n"));
+}

@@ -1,0 +1,21 @@
+//! The trace with the last connection number given and the signals behind each line, in the form
+//! of docs/BENCH.md.
+
+use std::io::{Read, Result, Write};
+
+use crate::number_line::NumberLine;
+use crate::trace::{print_outcomes, put_outcome};
+use crate::words::SignalWords;
+
+const FIRST_LINE: &[u8] = b"line answer state incumbent rerouting number last signals\n";
+
+pub fn print(input: impl Read, out: &mut impl Write) -> Result<()> {
+    print_outcomes(FIRST_LINE, input, out, |number, outcome, out| {
+        let mut line = NumberLine::EMPTY;
+        line.put_field(outcome.call.last);
+        line.put(b' ');
+        put_outcome(&mut line, number, outcome);
+        out.write_all(line.octets())?;
+        writeln!(out, "{}", SignalWords(&outcome.signals))
+    })
+}
