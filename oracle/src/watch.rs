@@ -10,11 +10,11 @@ use crate::words::SignalWords;
 const FIRST_LINE: &[u8] = b"line answer state incumbent rerouting number last signals\n";
 
 pub fn print(input: impl Read, out: &mut impl Write) -> Result<()> {
-    print_outcomes(FIRST_LINE, input, out, |number, outcome, out| {
+    print_outcomes(FIRST_LINE, input, out, |count, outcome, out| {
         let mut line = NumberLine::EMPTY;
         line.put_field(outcome.call.last);
         line.put(b' ');
-        put_outcome(&mut line, number, outcome);
+        put_outcome(&mut line, count, outcome);
         out.write_all(line.octets())?;
         writeln!(out, "{}", SignalWords(&outcome.signals))
     })
