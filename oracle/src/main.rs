@@ -18,6 +18,7 @@
 //! | `tables` | cases over a whole table, read and printed |
 //! | `draw`, `maker` | the numbers drawn from a seed, and cases of any form made from them |
 //! | `make_tables` | cases over a whole table, made |
+//! | `make_trace` | event records of one run, made |
 //! | `element` | the cause element sent on, a part of a string lent |
 //! | `elements` | cases of the cause element, read and printed |
 //! | `make_elements` | cases of the cause element, made |
@@ -38,6 +39,7 @@ mod event_record;
 mod list;
 mod make_elements;
 mod make_tables;
+mod make_trace;
 mod maker;
 mod number_line;
 mod record_input;
@@ -85,7 +87,7 @@ use crate::maker::Maker;
 const USAGE: &str =
     "usage: oracle cells < letters, oracle tables < cases, oracle elements < cases, \
     oracle trace < records, oracle watch < records, oracle script < lines, oracle list < records, \
-    oracle make-tables SEED COUNT [bad], oracle make-elements SEED COUNT [bad]";
+    oracle make-trace SEED COUNT [bad], oracle make-tables SEED COUNT [bad], oracle make-elements SEED COUNT [bad]";
 const USAGE_STATUS: u8 = 2;
 
 /// How much is written at once.
@@ -104,20 +106,30 @@ fn main() -> ExitCode {
         ["watch"] => status(watch::print(io::stdin().lock(), &mut out)),
         ["script"] => told(script::print(io::stdin().lock(), &mut out)),
         ["list"] => told(list::print(io::stdin().lock(), &mut out)),
-        ["make-tables", asked @ ..] => made(&make_tables::MAKER, asked, &mut out),
-        ["make-elements", asked @ ..] => made(&make_elements::MAKER, asked, &mut out),
+        ["make-trace", asked @ ..] => made(make_trace::write, asked, &mut out),
+        ["make-tables", asked @ ..] => made(of_maker(make_tables::MAKER), asked, &mut out),
+        ["make-elements", asked @ ..] => made(of_maker(make_elements::MAKER), asked, &mut out),
         _ => usage(),
     }
 }
 
-fn made(maker: &Maker, asked: &[&str], out: &mut impl Write) -> ExitCode {
+fn of_maker<Output: Write>(maker: Maker) -> impl Fn(u64, u64, bool, &mut Output) -> io::Result<()> {
+    move |seed, count, last_is_bad, out| maker.write(seed, count, last_is_bad, out)
+}
+
+/// Writes what a seed and a count ask for, the last of it bad if that is asked.
+fn made<Output: Write>(
+    write: impl Fn(u64, u64, bool, &mut Output) -> io::Result<()>,
+    asked: &[&str],
+    out: &mut Output,
+) -> ExitCode {
     let (seed, count, last_is_bad) = match asked {
         [seed, count] => (seed, count, false),
         [seed, count, "bad"] => (seed, count, true),
         _ => return usage(),
     };
     match (seed.parse(), count.parse()) {
-        (Ok(seed), Ok(count)) => status(maker.write(seed, count, last_is_bad, out)),
+        (Ok(seed), Ok(count)) => status(write(seed, count, last_is_bad, out)),
         _ => usage(),
     }
 }

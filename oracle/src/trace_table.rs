@@ -34,6 +34,14 @@ impl TraceTable {
         }
     }
 
+    /// The call with that key, or an empty record.
+    pub fn call(&self, key: u32) -> Call {
+        match self.place_of(key) {
+            Some(place) => self.calls[place],
+            None => Call::EMPTY,
+        }
+    }
+
     fn open(&mut self, key: u32, named: Option<Services>) -> Outcome {
         if let Some(place) = self.place_of(key) {
             return self.calls[place].refused(Answer::KeyOnRecord);
@@ -70,5 +78,10 @@ impl TraceTable {
             }
         }
         None
+    }
+
+    #[cfg(test)]
+    pub fn calls(&self) -> &[Call] {
+        &self.calls
     }
 }

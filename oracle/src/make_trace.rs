@@ -1,0 +1,36 @@
+//! Event records for a comparison of traces: one run over a table of 64 that the maker itself
+//! follows, so that events meet calls in every state and mostly name what they hold.
+//!
+//! | Module | What it holds |
+//! |---|---|
+//! | `run` | the run: whose turn it is, and the event that meets the call |
+//! | `worn` | the call whose connection numbers are spent |
+//! | `values` | the values of an event, from the call that it meets |
+//! | `bad` | the ways in which the last record is bad |
+
+mod bad;
+mod run;
+mod values;
+mod worn;
+
+#[cfg(test)]
+mod tests;
+
+use std::io::{Result, Write};
+
+use self::run::Run;
+
+/// Writes so many records, the last of them bad if that is asked; the others are the same either
+/// way.
+pub fn write(seed: u64, count: u64, last_is_bad: bool, out: &mut impl Write) -> Result<()> {
+    let mut run = Run::from_seed(seed);
+    for number in 1..=count {
+        let octets = run.next_record();
+        if last_is_bad && number == count {
+            out.write_all(&bad::record(seed, octets, &mut run.draw))?;
+        } else {
+            out.write_all(&octets)?;
+        }
+    }
+    out.flush()
+}

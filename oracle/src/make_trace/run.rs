@@ -1,0 +1,157 @@
+//! The run: whose turn it is, and the event that meets the call.
+//!
+//! Three kinds of call take turns. Some few keys open, reroute in every way, end and are opened
+//! again. A crowd of others comes until the table refuses one, and leaves. One call is worn until
+//! its connection numbers are spent.
+
+use super::values::{opening, values};
+use super::worn::{self, WornCall};
+use crate::call::{Call, State};
+use crate::draw::Draw;
+use crate::event_record::{decode, encode, EventRecord, EVENT_OCTETS};
+use crate::table::Request;
+use crate::trace_table::{TraceTable, RECORD_COUNT};
+use crate::vocabulary::Event;
+
+/// Some of them alike in their low octets.
+const FEW_KEYS: [u32; 7] = [1, 2, 3, 7, 257, 16_777_217, u32::MAX];
+const FIRST_OF_CROWD: u32 = 1_000;
+
+/// The kinds of an event, by their numbers (01, "The trace").
+pub const OPENING: u8 = 0;
+pub const TRIGGER: u8 = 1;
+pub const PATH_FOUND: u8 = 2;
+pub const NO_PATH: u8 = 3;
+pub const CONNECT: u8 = 4;
+pub const SETUP: u8 = 5;
+pub const CALLING_RELEASE: u8 = 6;
+pub const CALLED_RELEASE: u8 = 7;
+pub const READY: u8 = 8;
+pub const EXPIRY: u8 = 9;
+
+pub struct Run {
+    pub draw: Draw,
+    table: TraceTable,
+    crowd: Crowd,
+    worn: WornCall,
+}
+
+/// The crowd counts on while it comes, and as far while it leaves.
+struct Crowd {
+    next: u32,
+    leaving: bool,
+}
+
+impl Run {
+    pub fn from_seed(seed: u64) -> Self {
+        let crowd = Crowd { next: 0, leaving: false };
+        let worn = WornCall::from_seed(seed);
+        Self { draw: Draw::from_seed(seed), table: TraceTable::EMPTY, crowd, worn }
+    }
+
+    /// The next record; the run follows it.
+    pub fn next_record(&mut self) -> [u8; EVENT_OCTETS] {
+        let octets = match self.draw.below(16) {
+            0..=1 => self.of_crowd(),
+            2..=8 => self.of_worn_call(),
+            _ => self.of_few_keys(),
+        };
+        if let Some(asked) = decode(&octets) {
+            self.table.meet(&asked);
+        }
+        octets
+    }
+
+    /// Openings until some more came than there are records, then as many releases.
+    fn of_crowd(&mut self) -> [u8; EVENT_OCTETS] {
+        let key = FIRST_OF_CROWD + self.crowd.next;
+        let leaving = self.crowd.leaving;
+        self.crowd.next += 1;
+        if self.crowd.next as usize > RECORD_COUNT + 4 {
+            self.crowd = Crowd { next: 0, leaving: !leaving };
+        }
+        let request = if leaving {
+            Request::Event(Event::CallingRelease { cause: None })
+        } else {
+            Request::Opening(opening(&mut self.draw))
+        };
+        encode(&EventRecord { key, request })
+    }
+
+    /// Once its numbers are spent, it also meets events as the few do, but for most of those that
+    /// would end it: it took long to come so far.
+    fn of_worn_call(&mut self) -> [u8; EVENT_OCTETS] {
+        let call = self.table.call(worn::KEY);
+        if call.last == u16::MAX && self.draw.one_in(8) {
+            let kind = kind(&mut self.draw, call);
+            let octets = values(&mut self.draw, kind, worn::KEY, call);
+            if !ends(call, &octets) || self.draw.one_in(8) {
+                return octets;
+            }
+        }
+        self.worn.record(&mut self.draw, call)
+    }
+
+    /// Seldom key 0, or a key that is not on record and is not opened either.
+    fn of_few_keys(&mut self) -> [u8; EVENT_OCTETS] {
+        let key = self.draw.among(FEW_KEYS);
+        let call = self.table.call(key);
+        let kind = kind(&mut self.draw, call);
+        let (kind, key) = match self.draw.below(64) {
+            0 => (kind, 0),
+            1 => (kind.max(TRIGGER), self.draw.word()),
+            _ => (kind, key),
+        };
+        values(&mut self.draw, kind, key, call)
+    }
+}
+
+fn ends(call: Call, octets: &[u8; EVENT_OCTETS]) -> bool {
+    match decode(octets).map(|asked| asked.request) {
+        Some(Request::Event(event)) => call.after(event).call == Call::EMPTY,
+        Some(Request::Opening(_)) => false,
+        None => false,
+    }
+}
+
+/// An event for a call: of its state mostly one with a meaning, and mostly an opening where there
+/// is no such call.
+fn kind(draw: &mut Draw, call: Call) -> u8 {
+    let any = draw.below(10) as u8;
+    let usual = if call.key == 0 { OPENING } else { kind_with_meaning(draw, call.state) };
+    if draw.one_in(6) {
+        any
+    } else {
+        usual
+    }
+}
+
+/// An event that the state does not refuse with 106, but for its services. What ends a call without
+/// more comes less often than what goes on.
+fn kind_with_meaning(draw: &mut Draw, state: State) -> u8 {
+    let ending = if draw.one_in(4) { CALLING_RELEASE } else { TRIGGER };
+    match state {
+        State::Null => OPENING,
+        State::ReroutingIdle { .. } => {
+            draw.among([TRIGGER, TRIGGER, SETUP, SETUP, CALLED_RELEASE, CALLED_RELEASE, ending])
+        }
+        State::HardRerouteTriggered => {
+            draw.among([PATH_FOUND, PATH_FOUND, PATH_FOUND, NO_PATH, SETUP, ending, EXPIRY])
+        }
+        State::HardRerouteProceeding { .. } => {
+            draw.among([CONNECT, CONNECT, CALLED_RELEASE, CALLED_RELEASE, SETUP, ending, EXPIRY])
+        }
+        State::SoftRerouteTriggered { .. } => {
+            draw.among([PATH_FOUND, PATH_FOUND, PATH_FOUND, NO_PATH, SETUP, CALLED_RELEASE, ending])
+        }
+        State::SoftRerouteProceeding { .. } => {
+            draw.among([CONNECT, CONNECT, CALLED_RELEASE, CALLED_RELEASE, SETUP, ending])
+        }
+        State::SoftRerouteInitiated { .. } => {
+            draw.among([READY, READY, SETUP, CALLED_RELEASE, CALLED_RELEASE, ending])
+        }
+        State::AwaitingSwitchover { .. } => {
+            draw.among([SETUP, CALLED_RELEASE, CALLED_RELEASE, CALLED_RELEASE, ending])
+        }
+    }
+}
