@@ -10,7 +10,7 @@
 //! | `cells` | every cell of one call, printed |
 //! | `table` | the table of records: fitness, openings, the event on a record |
 //! | `event_record`, `event_fault` | an event in the 16 octets of the trace, and why one is bad |
-//! | `record_input`, `trace_table` | such events read one by one, and the table of 64 that they meet |
+//! | `record_input`, `trace_table` | these events read one by one, and their table of 64 |
 //! | `number_line` | a line of decimal numbers |
 //! | `trace`, `watch` | the lines of the trace, and the same with signals |
 //! | `script`, `list` | readable lines into event records, and back |
@@ -87,7 +87,8 @@ use crate::maker::Maker;
 const USAGE: &str =
     "usage: oracle cells < letters, oracle tables < cases, oracle elements < cases, \
     oracle trace < records, oracle watch < records, oracle script < lines, oracle list < records, \
-    oracle make-trace SEED COUNT [bad], oracle make-tables SEED COUNT [bad], oracle make-elements SEED COUNT [bad]";
+    oracle make-trace SEED COUNT [bad], oracle make-tables SEED COUNT [bad], \
+    oracle make-elements SEED COUNT [bad]";
 const USAGE_STATUS: u8 = 2;
 
 /// How much is written at once.

@@ -11,7 +11,7 @@ mod line;
 #[cfg(test)]
 mod tests;
 
-use std::io::{Read, Result, Write};
+use std::io::{BufRead, Result, Write};
 
 use self::event::event;
 use self::line::Line;
@@ -23,7 +23,7 @@ const NO_EVENT: [u8; 1] = [255];
 
 /// Writes the record of each line. Where a line names no event the run ends, and the complaint is
 /// handed back.
-pub fn print(input: impl Read, out: &mut impl Write) -> Result<Option<String>> {
+pub fn print(input: impl BufRead, out: &mut impl Write) -> Result<Option<String>> {
     let mut line = Line::EMPTY;
     let mut number: u64 = 1;
     for octet in input.bytes() {

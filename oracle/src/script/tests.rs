@@ -88,43 +88,44 @@ fn blanks_comments_and_line_ends_are_free() {
     assert_eq!(scripted(b"\r\n \n#\n# trigger 7\n\t"), (vec![], None));
 }
 
+const EVENT: &str = "open, trigger, path, nopath, connect, setup, calling, called, ready or expiry";
+const KEY: &str = "a key, 0 to 4294967295";
+const CONNECTION: &str = "a connection, 0 to 65535";
+const SWITCHOVER: &str = "clearing, immediate or a switchover code, 0 to 255";
+
 #[test]
-fn words_that_do_not_fit_are_told() {
-    let event = "open, trigger, path, nopath, connect, setup, calling, called, ready or expiry";
-    let key = "a key, 0 to 4294967295";
-    let connection = "a connection, 0 to 65535";
+fn events_and_keys_that_do_not_fit_are_told() {
+    for line in ["close 7", "Open 7", "7", "noalternates 7", "openopenopenopen 7"] {
+        names_nothing(line.as_bytes(), EVENT);
+    }
+    let long_keys = ["4294967296", "18446744073709551623", "99999999999999999999999"];
+    for key in ["", "# 7", "x", "-1", "+7", "0x7", "7,"].into_iter().chain(long_keys) {
+        names_nothing(format!("trigger {key}").as_bytes(), KEY);
+    }
+}
+
+#[test]
+fn values_that_do_not_fit_are_told() {
     for (line, expected) in [
-        ("close 7", event),
-        ("Open 7", event),
-        ("7", event),
-        ("noalternates 7", event),
-        ("trigger", key),
-        ("trigger # 7", key),
-        ("trigger x", key),
-        ("trigger -1", key),
-        ("trigger +7", key),
-        ("trigger 0x7", key),
-        ("trigger 4294967296", key),
-        ("trigger 18446744073709551623", key),
         ("open 7 soft", "hard, nohard or nothing more"),
         ("open 7 hard", "none, asymmetric or symmetric"),
         ("open 7 hard yes", "none, asymmetric or symmetric"),
-        ("connect 7", connection),
-        ("connect 7 65536 yes", connection),
-        ("connect 7 yes", connection),
+        ("connect 7", CONNECTION),
+        ("connect 7 65536 yes", CONNECTION),
+        ("connect 7 yes", CONNECTION),
         ("connect 7 3", "yes or no"),
         ("connect 7 3 1", "yes or no"),
-        ("setup 7", "clearing, immediate or a switchover code, 0 to 255"),
-        ("setup 7 256 3", "clearing, immediate or a switchover code, 0 to 255"),
-        ("setup 7 other 3", "clearing, immediate or a switchover code, 0 to 255"),
+        ("setup 7", SWITCHOVER),
+        ("setup 7 256 3", SWITCHOVER),
+        ("setup 7 other 3", SWITCHOVER),
         ("setup 7 clearing", "an incarnation number, 0 to 4294967295"),
         ("setup 7 clearing 4294967296", "an incarnation number, 0 to 4294967295"),
         ("calling 7 3", "cause or nothing more"),
         ("calling 7 alternate", "cause or nothing more"),
         ("calling 7 cause", "a cause, 0 to 255"),
         ("calling 7 cause 256", "a cause, 0 to 255"),
-        ("called 7", connection),
-        ("called 7 cause 4", connection),
+        ("called 7", CONNECTION),
+        ("called 7 cause 4", CONNECTION),
         ("called 7 3 crankback", "cause, alternate, noalternate or nothing more"),
         ("called 7 3 cause", "a cause, 0 to 255"),
         ("called 7 3 cause 4 cause 4", "alternate, noalternate or nothing more"),
@@ -156,17 +157,15 @@ fn words_behind_the_last_are_told() {
 /// A line that an event's words would name, were it not for one octet.
 #[test]
 fn octets_that_are_no_letters_name_nothing() {
-    let key = "a key, 0 to 4294967295";
     for octet in (0..=255_u8).filter(|octet| !octet.is_ascii_alphanumeric()) {
         if !b" \t\r\n#".contains(&octet) {
-            names_nothing(&[b"trigger 7".as_slice(), &[octet]].concat(), key);
-            names_nothing(&[b"trigger ".as_slice(), &[octet]].concat(), key);
+            names_nothing(&[b"trigger 7".as_slice(), &[octet]].concat(), KEY);
+            names_nothing(&[b"trigger ".as_slice(), &[octet]].concat(), KEY);
             names_nothing(&[b"trigger 7 ".as_slice(), &[octet]].concat(), "nothing more");
         }
     }
-    let event = "open, trigger, path, nopath, connect, setup, calling, called, ready or expiry";
-    names_nothing(b"\xef\xbb\xbftrigger 7", event);
-    names_nothing(&[b'x'; 100_000], event);
-    names_nothing(&[b'9'; 100_000], event);
-    names_nothing(&[b"trigger ".as_slice(), &[b'9'; 100_000]].concat(), key);
+    names_nothing(b"\xef\xbb\xbftrigger 7", EVENT);
+    names_nothing(&[b'x'; 100_000], EVENT);
+    names_nothing(&[b'9'; 100_000], EVENT);
+    names_nothing(&[b"trigger ".as_slice(), &[b'9'; 100_000]].concat(), KEY);
 }
