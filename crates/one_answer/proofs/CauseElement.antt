@@ -1,6 +1,7 @@
 -- The public functions of cause_element have one possible answer each. Assumes nothing.
 use mathlib.Core.Path.{refl}
-use Rattle.one_answer.specs.One.{OneAnswer, OnePart}
+use Rattle.one_answer.specs.One.{OneAnswer}
+use Rattle.one_answer.specs.Part.{OnePart}
 use Rattle.one_answer.proofs.Law.{facts, result, part}
 use Rattle.cause_element.proofs.named as named
 use Rattle.cause_element.proofs.element as element
