@@ -79,7 +79,7 @@ opened-fit key wanted n =
     }
 
 -- a call after an event: emptied, or the same call still in use
-after-event : (c : Call) (e : Event) → (c .key ≡ 0 → ⊥) → InUse c → FitRecord (eventOf c e .call) × ((eventOf c e .call .key ≡ 0) ⊎ (eventOf c e .call .key ≡ c .key))
+pub after-event : (c : Call) (e : Event) → (c .key ≡ 0 → ⊥) → InUse c → FitRecord (eventOf c e .call) × ((eventOf c e .call .key ≡ 0) ⊎ (eventOf c e .call .key ≡ c .key))
 after-event c e n u = by-test (isNull (eventOf c e .call .state)) refl
   where
     by-test : (b : Bool) → isNull (eventOf c e .call .state) ≡ b → FitRecord (eventOf c e .call) × ((eventOf c e .call .key ≡ 0) ⊎ (eventOf c e .call .key ≡ c .key))

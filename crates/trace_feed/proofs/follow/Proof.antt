@@ -1,0 +1,72 @@
+-- `follow` meets its contract: the table stays fit, less than a record is kept, and the count has room for the turns that are left. Assumes nothing.
+use Prim.Native.Nat.{ℕ, _≤_, _<_, _+_, _-_, _*_}
+use native.Mathlib.Omega.{arith}
+use mathlib.Core.Path.{_≡_, refl, _∙_}
+use mathlib.Core.Bool.{true}
+use borrow.Author.Needs.{needs}
+use lib.ListN.{length}
+use Rattle.source_table.specs.Fit.{fitTable}
+use Rattle.trace_run.proofs.Empty.{empty-tests-fit}
+use Rattle.trace_feed.proofs.follow.Statement.{statement}
+use Rattle.trace_feed.proofs.follow.Tie as tie
+
+-- a chunk more is counted, and one turn fewer is left
+a-chunk-more : (n n′ turns most : ℕ) → n′ ≤ n + 4096 → n + turns * 4096 ≤ most → 0 < turns → n′ + (turns - 1) * 4096 ≤ most
+a-chunk-more n n′ turns most h i l = omega arith
+
+abbrev Inv-loop : tie.InvT-loop
+Inv-loop columns name out₀ input₀ table₀ count₀ kept₀ turns₀ t12 out input table count kept turns =
+    (length input ≡ 65536) × ((length out ≡ length out₀) × ((kept ≤ 15) × ((count + turns * 4096 ≤ 1152921504606846976) × (fitTable table ≡ true))))
+
+abbrev μ-loop : tie.MeasureT-loop
+μ-loop columns name out₀ input₀ table₀ count₀ kept₀ turns₀ t12 out input table count kept turns = turns
+
+loop-holds : tie.Need-loop-holds Inv-loop μ-loop
+loop-holds c = (search needs, (refl, (omega arith, (omega arith, empty-tests-fit 64 (omega arith)))))
+
+loop-again : tie.Need-loop-again Inv-loop μ-loop
+loop-again c = (search needs, (c .before .before .before .before .before .before .before .before .before .before .before .before .run .kept .1 .1 .0 ∙ c .before .before .before .before .before .before .before .before .before .before .before .before .before .before .before .before .before .before .before .before .before .before .before .before .before .before .loop .inv .1 .0, (search needs, (a-chunk-more _ _ _ _ (c .before .before .before .before .before .before .before .before .before .before .before .before .run .ensures .1 .1 .1 .1 .1) (c .before .before .before .before .before .before .before .before .before .before .before .before .before .before .before .before .before .before .before .before .before .before .before .before .before .before .loop .inv .1 .1 .1 .0) (c .before .before .before .before .before .before .before .before .before .before .before .before .before .before .before .before .before .before .before .before .before .before .before .before .before .loop-test .taken), search needs))))
+
+pub follow-spec : {M : Type 1} → statement M
+follow-spec =
+    tie.close
+    (tie.spec
+    Inv-loop
+    μ-loop
+    loop-holds
+    (λ c. search needs)
+    (λ c. search needs)
+    (λ c. search needs)
+    (λ c. search needs)
+    (λ c κs. search needs)
+    (λ c. search needs)
+    (λ c κs. search needs)
+    (λ c. search needs)
+    (λ c. search needs)
+    (λ c. search needs)
+    (λ c. search needs)
+    (λ c. search needs)
+    (λ c. search needs)
+    (λ c κs. search needs)
+    (λ c. search needs)
+    (λ c κs. search needs)
+    (λ c. search needs)
+    (λ c. search needs)
+    (λ c. search needs)
+    (λ c. search needs)
+    (λ c. search needs)
+    (λ c. search needs)
+    (λ c κs. search needs)
+    (λ c κs. search needs)
+    (λ c. search needs)
+    (λ c. search needs)
+    (λ c. search needs)
+    (λ c. search needs)
+    (λ c. search needs)
+    (λ c. search needs)
+    (λ c κs. search needs)
+    (λ c. search needs)
+    loop-again
+    (λ c. search needs)
+    (λ c. search needs)
+    (λ c. search needs))

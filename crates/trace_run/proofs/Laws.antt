@@ -1,0 +1,72 @@
+-- The laws of the search among the keys, and of 16 octets in a row. Assumes nothing.
+use Prim.Native.Nat.{ℕ, zero, suc, _+_, _≤_, _<_}
+use native.Mathlib.Omega.{arith}
+use native.Mathlib.Numerals.{add-one}
+use mathlib.Core.Path.{_≡_, refl, sym, _∙_, ap}
+use mathlib.Core.List.{List, [], _∷_, _++_}
+use borrow.Author.Tests.{eq-eqb, ne-eqb}
+use lib.ListN.{length, take, drop, set, getD, drop-of-length-le}
+use lib.Seq.{drop-cons, take-suc, take-suc-set, take-all}
+use Rattle.source.specs.declared.Call.{Call}
+use Rattle.source.specs.Record.{emptied}
+use Rattle.trace_run.specs.Run.{recordAt}
+use Rattle.trace_run.specs.Placed.{indexOf, keysOf}
+
+index-here : (key x : ℕ) (xs : List ℕ) → x ≡ key → indexOf key (x ∷ xs) ≡ 0
+index-here key x xs e = rw (eq-eqb x key e)
+
+index-past : (key x : ℕ) (xs : List ℕ) → (x ≡ key → ⊥) → indexOf key (x ∷ xs) ≡ suc (indexOf key xs)
+index-past key x xs e = rw (ne-eqb x key e)
+
+-- a search that has come to i: the key stands there, stands further on, or nowhere
+pub index-hit : (key : ℕ) (ks : List ℕ) (i : ℕ) → i < length ks → indexOf key ks ≡ i + indexOf key (drop i ks) → getD ks i 0 ≡ key → i ≡ indexOf key ks
+index-hit key ks i h p e =
+    let q : indexOf key (drop i ks) ≡ 0 = ap (indexOf key) (drop-cons ks i 0 h) ∙ index-here key (getD ks i 0) (drop (suc i) ks) e in omega arith
+
+pub index-step : (key : ℕ) (ks : List ℕ) (i : ℕ) → i < length ks → indexOf key ks ≡ i + indexOf key (drop i ks) → (getD ks i 0 ≡ key → ⊥) → indexOf key ks ≡ (i + 1) + indexOf key (drop (i + 1) ks)
+index-step key ks i h p e =
+    let q : indexOf key (drop i ks) ≡ suc (indexOf key (drop (suc i) ks)) = ap (indexOf key) (drop-cons ks i 0 h) ∙ index-past key (getD ks i 0) (drop (suc i) ks) e in
+    rw (add-one i) (omega arith)
+
+pub index-end : (key : ℕ) (ks : List ℕ) (i : ℕ) → length ks ≤ i → indexOf key ks ≡ i + indexOf key (drop i ks) → i ≡ indexOf key ks
+index-end key ks i h p =
+    let q : indexOf key (drop i ks) ≡ 0 = ap (indexOf key) (drop-of-length-le ks h) in omega arith
+
+pub length-keys : (ys : List Call) → length (keysOf ys) ≡ length ys
+length-keys [] = refl
+length-keys (c ∷ ys) = ap suc (length-keys ys)
+
+pub keys-set : (ys : List Call) (i : ℕ) (d : Call) → keysOf (set ys i d) ≡ set (keysOf ys) i (d .key)
+keys-set [] i d = refl
+keys-set (c ∷ ys) zero d = refl
+keys-set (c ∷ ys) (suc i) d = ap (λ (l : List ℕ). c .key ∷ l) (keys-set ys i d)
+
+pub key-at : (ys : List Call) (i : ℕ) → getD (keysOf ys) i 0 ≡ getD ys i emptied .key
+key-at [] i = refl
+key-at (c ∷ ys) zero = refl
+key-at (c ∷ ys) (suc i) = key-at ys i
+
+-- one key more
+pub keys-more : (ys : List Call) (ks : List ℕ) (i k : ℕ) → i < length ks → i < length ys → k ≡ getD (keysOf ys) i 0 → take i ks ≡ take i (keysOf ys) → take (i + 1) (set ks i k) ≡ take (i + 1) (keysOf ys)
+keys-more ys ks i k h l e p =
+    rw (add-one i)
+    (take-suc-set ks i k h ∙ (ap (λ (x : ℕ). take i ks ++ (x ∷ [])) e ∙ (ap (λ (x : List ℕ). x ++ (getD (keysOf ys) i 0 ∷ [])) p ∙ sym (take-suc (keysOf ys) i 0 (omega (arith, length-keys ys))))))
+
+pub keys-all : (ys : List Call) (ks : List ℕ) (i : ℕ) → length ks ≤ i → length ys ≤ i → take i ks ≡ take i (keysOf ys) → ks ≡ keysOf ys
+keys-all ys ks i h l p = sym (take-all i ks h) ∙ (p ∙ take-all i (keysOf ys) (omega (arith, length-keys ys)))
+
+-- octets from a place on, one by one
+abbrev pub window : List ℕ → ℕ → ℕ → ℕ → List ℕ
+window s p k zero = []
+window s p k (suc n) = getD s (p + k) 0 ∷ window s p (suc k) n
+
+window-is : (s : List ℕ) (p k n : ℕ) → p + k + n ≤ length s → window s p k n ≡ take n (drop (p + k) s)
+window-is s p k zero h = refl
+window-is s p k (suc n) h =
+    let e : suc (p + k) ≡ p + suc k = omega arith in
+    rw (drop-cons s (p + k) 0 (omega arith)) (ap (λ (l : List ℕ). getD s (p + k) 0 ∷ l) (window-is s p (suc k) n (omega arith) ∙ ap (λ (m : ℕ). take n (drop m s)) (sym e)))
+
+pub record-is : (s : List ℕ) (p : ℕ) → p + 16 ≤ length s → (getD s p 0 ∷ window s p 1 15) ≡ recordAt s p
+unfolding recordAt
+record-is s p h =
+    rw (drop-cons s p 0 (omega arith)) (ap (λ (l : List ℕ). getD s p 0 ∷ l) (window-is s p 1 15 (omega arith) ∙ ap (λ (m : ℕ). take 15 (drop m s)) (add-one p)))

@@ -1,0 +1,4 @@
+pub mod Laws
+pub mod Placed
+pub mod Steps
+pub mod Empty

@@ -1,0 +1,61 @@
+-- What a run of the trace prints (01, "The trace"): event records of 16 octets each, over a table of calls. Each is one opening or event by key, as
+-- `source_table::handle` does it: `ranOf` and `tableOf` are the two that its contract fixes. Assumes nothing.
+use Prim.Native.Nat.{ℕ, zero, suc, _+_, _*_}
+use mathlib.Core.Bool.{Bool, true, false, cond}
+use mathlib.Core.List.{List, [], _∷_, _++_}
+use lib.ListN.{take, drop}
+use Rattle.lines.specs.Lines.{ascii}
+use Rattle.source.specs.declared.Call.{Call}
+use Rattle.source.specs.declared.Outcome.{Outcome}
+use Rattle.source_table.specs.declared.Act.{Act}
+use Rattle.source_table.specs.Claims.{callOf}
+use Rattle.source_table.specs.Table.{ranOf, tableOf}
+use Rattle.event_record.specs.declared.Decoded.{Decoded}
+use Rattle.event_record.specs.declared.Request.{Request}
+use Rattle.event_record.specs.declared.Request.the-variants.{Bad, Asks}
+use Rattle.event_record.specs.Record.{decodedOf}
+use Rattle.trace_line.specs.declared.Columns.{Columns}
+use Rattle.trace_line.specs.Line.{lineText}
+
+-- how far a run has come: the table, what has been printed, the count of records, and whether none of them was bad
+pub record Past : Type 0 where
+  pub table : List Call
+  pub text : List ℕ
+  pub count : ℕ
+  pub good : Bool
+
+-- at the start of a chunk nothing has been printed of it
+abbrev pub begin : List Call → ℕ → Past
+begin ys n = record { table = ys; text = []; count = n; good = true }
+
+-- what a line shows: the answer and the signals of the event, and the call of its key after it (decision 25)
+unfoldable pub shownOf : List Call → ℕ → Act → Outcome
+shownOf ys key act = record { answer = ranOf ys key act .done .answer; call = callOf key (tableOf ys key act); signals = ranOf ys key act .done .signals }
+
+-- `bad` on a line of its own; nothing is done, and nothing is counted
+abbrev pub badText : List ℕ
+badText = ascii "bad" ++ (10 ∷ [])
+
+-- a record that has been read
+unfoldable pub onRequest : Columns → Past → ℕ → Request → Past
+onRequest w p key Bad = record { table = p .table; text = p .text ++ badText; count = p .count; good = false }
+onRequest w p key (Asks act) =
+    record {
+      table = tableOf (p .table) key act;
+      text = p .text ++ lineText w (p .count + 1) (shownOf (p .table) key act);
+      count = p .count + 1;
+      good = true;
+    }
+
+abbrev pub onDecoded : Columns → Past → Decoded → Past
+onDecoded w p d = onRequest w p (d .key) (d .request)
+
+-- the 16 octets from a place on
+unfoldable pub recordAt : List ℕ → ℕ → List ℕ
+recordAt octets place = take 16 (drop place octets)
+
+-- after so many records of the input; behind a bad one nothing is read
+abbrev pub after : Columns → List ℕ → Past → ℕ → Past
+after w octets p zero = p
+after w octets p (suc r) =
+    cond (after w octets p r .good) (onDecoded w (after w octets p r) (decodedOf (recordAt octets (r * 16)))) (after w octets p r)

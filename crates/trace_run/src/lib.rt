@@ -1,0 +1,183 @@
+// The run of the trace: event records of 16 octets each, over a table of 64 calls by value, and a line for each record.
+//
+// The keys of the table stand beside it, so that a search reads nothing else. No event is checked for 101: the table that a run is given is fit, and stays so.
+ghost use Prim.Native.Nat.{_+_, _≤_, _<_, _/_, _^_};
+ghost use mathlib.Core.Bool.{true};
+ghost use mathlib.Core.Path.{_≡_};
+ghost use lib.ListN.{length};
+ghost use Rattle.lines.specs.Lines.{page, putText};
+ghost use Rattle.source_table.specs.Fit.{fitTable};
+ghost use Rattle.trace_run.specs.Run.{recordAt, begin, after};
+ghost use Rattle.trace_run.specs.Placed.{keysOf, indexOf, placeOf, refusedWith, workedOn, unplacedFor};
+use event_record::Request;
+use signal::Answer;
+use signal::Signal;
+use source::Call;
+use source::Outcome;
+use source_table::Act;
+use trace_line::Columns;
+
+// How far a run has come: the table, the place behind the lines, the count of records, and whether none of them was bad.
+pub struct Ran {
+    pub table: [Call; 64],
+    pub at: usize,
+    pub count: u64,
+    pub good: bool,
+}
+
+fn record_at(input: &[u8], place: usize) -> [u8; 16]
+    requires { ⌜ place + 16 ≤ length (now input) ⌝ }
+    ensures { λ r. ⌜ r ≡ recordAt (now (input .entry)) place ⌝ }
+{
+    [
+        input[place],
+        input[place + 1],
+        input[place + 2],
+        input[place + 3],
+        input[place + 4],
+        input[place + 5],
+        input[place + 6],
+        input[place + 7],
+        input[place + 8],
+        input[place + 9],
+        input[place + 10],
+        input[place + 11],
+        input[place + 12],
+        input[place + 13],
+        input[place + 14],
+        input[place + 15],
+    ]
+}
+
+fn keys_of(table: [Call; 64]) -> [u32; 64]
+    ensures { λ r. ⌜ (r ≡ keysOf table) × (length r ≡ 64) ⌝ }
+{
+    let mut keys = [0u32; 64];
+    let mut index: usize = 0;
+    while index < 64 {
+        let call = table[index];
+        keys[index] = call.key;
+        index += 1;
+    }
+    keys
+}
+
+// The first place of a key, or 64.
+fn find(keys: &[u32; 64], key: u32) -> usize
+    requires { ⌜ length (now keys) ≡ 64 ⌝ }
+    ensures { λ r. ⌜ (r ≡ indexOf key (now (keys .entry))) × (r ≤ 64) ⌝ }
+{
+    let mut index: usize = 0;
+    while index < 64 {
+        if keys[index] == key {
+            return index;
+        }
+        index += 1;
+    }
+    64
+}
+
+// The place of the record that is worked on, or 64.
+fn place_for(keys: &[u32; 64], key: u32, act: Act) -> usize
+    requires { ⌜ length (now keys) ≡ 64 ⌝ }
+    ensures { λ r. ⌜ r ≡ placeOf (now (keys .entry)) key act ⌝ }
+{
+    if key == 0 {
+        return 64;
+    }
+    let found = find(keys, key);
+    if found < 64 {
+        return found;
+    }
+    match act {
+        Act::Opens(_) => find(keys, 0),
+        Act::Meets(_) => 64,
+    }
+}
+
+fn refused(answer: Answer, call: Call) -> Outcome
+    ensures { λ r. ⌜ r ≡ refusedWith answer call ⌝ }
+{
+    Outcome {
+        answer: answer,
+        call: call,
+        signals: [Signal::NONE, Signal::NONE, Signal::NONE, Signal::NONE],
+    }
+}
+
+// What comes of the record at its place: the call of the key, or an empty record.
+fn worked(call: Call, key: u32, act: Act) -> Outcome
+    ensures { λ r. ⌜ r ≡ workedOn call key act ⌝ }
+{
+    match act {
+        Act::Opens(wanted) => {
+            if call.key == key {
+                return refused(Answer::KeyOnRecord, call);
+            }
+            Call::opened(key, wanted)
+        }
+        Act::Meets(event) => call.handle(event),
+    }
+}
+
+// What comes of it where no record is worked on.
+fn unplaced(key: u32, act: Act) -> Outcome
+    ensures { λ r. ⌜ r ≡ unplacedFor key act ⌝ }
+{
+    if key == 0 {
+        return refused(Answer::KeyZero, Call::EMPTY);
+    }
+    match act {
+        Act::Opens(_) => refused(Answer::NoEmptyRecord, Call::EMPTY),
+        Act::Meets(_) => refused(Answer::KeyNotOnRecord, Call::EMPTY),
+    }
+}
+
+// Every whole record of the input, in order, to lines at the start of the buffer; a bad one ends the run.
+pub fn run(table: [Call; 64], input: &[u8], out: &mut [u8], columns: Columns, start: u64) -> Ran
+    requires { ⌜ (fitTable table ≡ true) × ((length (now input) ≤ 65536) × (start + 4096 < 2 ^ 64)) ⌝ }
+    ensures { λ r. ⌜ r .table ≡ after columns (now (input .entry)) (begin table start) (length (now (input .entry)) / 16) .table ⌝ }
+    ensures { λ r. ⌜ r .count ≡ after columns (now (input .entry)) (begin table start) (length (now (input .entry)) / 16) .count ⌝ }
+    ensures { λ r. ⌜ r .good ≡ after columns (now (input .entry)) (begin table start) (length (now (input .entry)) / 16) .good ⌝ }
+    ensures { λ r. ⌜ page (now (out .exit)) (r .at) ≡ putText (page (now (out .entry)) 0) (after columns (now (input .entry)) (begin table start) (length (now (input .entry)) / 16) .text) ⌝ }
+    ensures { λ r. ⌜ (fitTable (r .table) ≡ true) × (r .count ≤ start + 4096) ⌝ }
+{
+    let mut calls = table;
+    let mut keys = keys_of(table);
+    let mut at: usize = 0;
+    let mut count = start;
+    let records = input.len() / 16;
+    let mut index: usize = 0;
+    while index < records {
+        let decoded = event_record::decode(record_at(input, index * 16));
+        let request = decoded.request;
+        let Request::Asks(act) = request else {
+            at = lines::put_word(out, at, b"bad\n");
+            return Ran {
+                table: calls,
+                at,
+                count,
+                good: false,
+            };
+        };
+        count += 1;
+        let key = decoded.key;
+        let place = place_for(&keys, key, act);
+        if place < 64 {
+            let outcome = worked(calls[place], key, act);
+            let call = outcome.call;
+            calls[place] = call;
+            keys[place] = call.key;
+            at = trace_line::put_line(out, at, columns, count, outcome);
+        } else {
+            at = trace_line::put_line(out, at, columns, count, unplaced(key, act));
+        }
+        index += 1;
+    }
+    Ran {
+        table: calls,
+        at,
+        count,
+        good: true,
+    }
+}
