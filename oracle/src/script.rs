@@ -14,7 +14,7 @@ mod tests;
 use std::io::{BufRead, Result, Write};
 
 use self::event::event;
-use self::line::Line;
+use self::line::{Line, LENGTH};
 use crate::event_record::encode;
 
 /// What follows the records before a line that names no event: too short for a record, and no
@@ -35,7 +35,9 @@ pub fn print(input: impl BufRead, out: &mut impl Write) -> Result<Option<String>
                 line = Line::EMPTY;
                 number += 1;
             }
-            other => line.put(other),
+            // Judged before the words are, and nothing more of the line is read.
+            other if !line.put(other) => return complaint(number, LENGTH, out),
+            _ => {}
         }
     }
     // The last line may lack its end.
