@@ -31,7 +31,7 @@ pub fn print_outcomes<Output: Write>(
     out.write_all(first_line)?;
     let mut table = TraceTable::EMPTY;
     let mut count = Count::ZERO;
-    let end = for_each(&mut input, |octets| match decode(octets) {
+    let end = for_each(&mut input, out, |octets, out| match decode(octets) {
         None => Ok(false),
         Some(asked) => {
             count.next();
