@@ -13,13 +13,20 @@ use crate::trace_table::TraceTable;
 pub struct Tally<'a> {
     list: &'a List,
     counts: Vec<u64>,
+    /// How runs ended that did not end behind a good record.
+    bad_ends: Vec<String>,
     /// Each thing that does not fit, and how often it came.
     misfits: BTreeMap<String, u64>,
 }
 
 impl<'a> Tally<'a> {
     pub fn new(list: &'a List) -> Self {
-        Self { list, counts: vec![0; list.rows.len()], misfits: BTreeMap::new() }
+        Self {
+            list,
+            counts: vec![0; list.rows.len()],
+            bad_ends: Vec::new(),
+            misfits: BTreeMap::new(),
+        }
     }
 
     /// A run of records that come from an input. A bad one fits no row and ends the run.
@@ -32,8 +39,8 @@ impl<'a> Tally<'a> {
         })?;
         match end {
             End::Whole => {}
-            End::Refused => self.misfit(format!("record {number} is bad")),
-            End::CutShort(_) => self.misfit(format!("record {} is cut short", number + 1)),
+            End::Refused => self.bad_ends.push(format!("record {number} is bad")),
+            End::CutShort(_) => self.bad_ends.push(format!("record {} is cut short", number + 1)),
         }
         Ok(())
     }
@@ -42,7 +49,7 @@ impl<'a> Tally<'a> {
         let mut table = TraceTable::EMPTY;
         for octets in records {
             if !self.meet(&mut table, &octets) {
-                self.misfit(format!("made record {octets:?} is bad"));
+                self.bad_ends.push(format!("made record {octets:?} is bad"));
             }
         }
     }
@@ -84,9 +91,9 @@ impl<'a> Tally<'a> {
 
     /// What does not fit; with `all` also each row that is met though it is unreachable, or not met.
     pub fn faults(&self, all: bool) -> Vec<String> {
+        let mut faults = self.bad_ends.clone();
         let misfits = self.misfits.iter();
-        let mut faults: Vec<String> =
-            misfits.map(|(what, count)| format!("{what} (events: {count})")).collect();
+        faults.extend(misfits.map(|(what, count)| format!("{what} (events: {count})")));
         if all {
             faults.extend(self.counts().filter_map(|(row, count)| fault_of_count(row, count)));
         }

@@ -152,44 +152,48 @@ pub struct Met {
 
 impl Met {
     pub fn before(asked: &EventRecord, table: &TraceTable) -> Self {
-        let call = table.call(asked.key);
-        let state = match (asked.key, call.key) {
+        let mut met = match asked.request {
+            Request::Opening(named) => Self::opening(named, table.is_full()),
+            Request::Event(event) => Self::event(event, table.call(asked.key)),
+        };
+        met.state = match (asked.key, table.call(asked.key)) {
             (0, _) => ANY,
-            (_, 0) => NO_CALL,
-            _ => usize::from(call.state.number()),
+            (_, Call { key: 0, .. }) => NO_CALL,
+            (_, call) => usize::from(call.state.number()),
         };
-        let mut terms = Terms::default();
         if asked.key == 0 {
-            terms.add(Term::KeyZero);
+            met.terms.add(Term::KeyZero);
         }
-        let event = match asked.request {
-            Request::Opening(named) => {
-                opening_terms(&mut terms, named, table.is_full());
-                0
+        met
+    }
+
+    fn opening(named: Option<Services>, full: bool) -> Self {
+        let mut terms = Terms::default();
+        terms.add(if full { Term::NoEmptyRecord } else { Term::EmptyRecord });
+        match named {
+            None => terms.add(Term::DefaultServices),
+            Some(services) => {
+                terms.add(Term::NamedServices);
+                service_terms(&mut terms, services);
             }
-            Request::Event(event) => {
-                call_terms(&mut terms, call);
-                event_terms(&mut terms, event, call)
-            }
-        };
-        Self { state, event, terms }
+        }
+        Self { state: NO_CALL, event: 0, terms }
+    }
+
+    /// An event that meets a call, whatever its key.
+    pub fn event(event: Event, call: Call) -> Self {
+        let Call { hard, soft, last, .. } = call;
+        let mut terms = Terms::default();
+        service_terms(&mut terms, Services { hard, soft });
+        terms.add(if last == u16::MAX { Term::LastSpent } else { Term::LastBelow });
+        let number = event_terms(&mut terms, event, call);
+        Self { state: usize::from(call.state.number()), event: number, terms }
     }
 }
 
 impl Display for Met {
     fn fmt(&self, out: &mut Formatter<'_>) -> std::fmt::Result {
         write!(out, "{}; {}; {}", STATES[self.state], EVENTS[self.event], self.terms)
-    }
-}
-
-fn opening_terms(terms: &mut Terms, named: Option<Services>, full: bool) {
-    terms.add(if full { Term::NoEmptyRecord } else { Term::EmptyRecord });
-    match named {
-        None => terms.add(Term::DefaultServices),
-        Some(services) => {
-            terms.add(Term::NamedServices);
-            service_terms(terms, services);
-        }
     }
 }
 
@@ -201,11 +205,6 @@ fn service_terms(terms: &mut Terms, Services { hard, soft }: Services) {
         Soft::Asymmetric => terms.add(Term::SoftAsymmetric),
         Soft::Symmetric => terms.add(Term::SoftSymmetric),
     }
-}
-
-fn call_terms(terms: &mut Terms, Call { hard, soft, last, .. }: Call) {
-    service_terms(terms, Services { hard, soft });
-    terms.add(if last == u16::MAX { Term::LastSpent } else { Term::LastBelow });
 }
 
 /// The terms of an event's values; hands back its number.
