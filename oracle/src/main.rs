@@ -19,6 +19,7 @@
 //! | `draw`, `maker` | the numbers drawn from a seed, and cases of any form made from them |
 //! | `make_tables` | cases over a whole table, made |
 //! | `make_trace` | event records of one run, made |
+//! | `make_damaged` | short runs that are damaged, made |
 //! | `rows` | the list of rows, and how often runs meet each |
 //! | `element` | the cause element sent on, a part of a string lent |
 //! | `elements` | cases of the cause element, read and printed |
@@ -38,6 +39,7 @@ mod elements;
 mod event_fault;
 mod event_record;
 mod list;
+mod make_damaged;
 mod make_elements;
 mod make_tables;
 mod make_trace;
@@ -83,6 +85,7 @@ use std::env;
 use std::ffi::OsString;
 use std::fs;
 use std::io::{self, BufWriter, ErrorKind, Write};
+use std::path::Path;
 use std::process::ExitCode;
 
 use crate::maker::Maker;
@@ -92,8 +95,8 @@ const USAGE: &str =
     "usage: oracle cells < letters, oracle tables < cases, oracle elements < cases, \
     oracle trace < records, oracle watch < records, oracle script < lines, oracle list < records, \
     oracle rows LIST [all] < records, oracle rows LIST [all] SEED:COUNT .., \
-    oracle make-trace SEED COUNT [bad], oracle make-tables SEED COUNT [bad], \
-    oracle make-elements SEED COUNT [bad]";
+    oracle make-trace SEED COUNT [bad], oracle make-damaged SEED COUNT FOLDER, \
+    oracle make-tables SEED COUNT [bad], oracle make-elements SEED COUNT [bad]";
 const USAGE_STATUS: u8 = 2;
 
 /// How much is written at once.
@@ -115,6 +118,7 @@ fn main() -> ExitCode {
         ["rows", file, "all", runs @ ..] => rows_met(file, true, runs, &mut out),
         ["rows", file, runs @ ..] => rows_met(file, false, runs, &mut out),
         ["make-trace", asked @ ..] => made(make_trace::write, asked, &mut out),
+        ["make-damaged", seed, count, folder] => damaged(seed, count, folder),
         ["make-tables", asked @ ..] => made(of_maker(make_tables::MAKER), asked, &mut out),
         ["make-elements", asked @ ..] => made(of_maker(make_elements::MAKER), asked, &mut out),
         _ => usage(),
@@ -155,6 +159,13 @@ fn made<Output: Write>(
     };
     match (seed.parse(), count.parse()) {
         (Ok(seed), Ok(count)) => status(write(seed, count, last_is_bad, out)),
+        _ => usage(),
+    }
+}
+
+fn damaged(seed: &str, count: &str, folder: &str) -> ExitCode {
+    match (seed.parse(), count.parse()) {
+        (Ok(seed), Ok(count)) => status(make_damaged::write(seed, count, Path::new(folder))),
         _ => usage(),
     }
 }

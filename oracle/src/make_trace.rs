@@ -18,7 +18,9 @@ mod tests;
 
 use std::io::{Result, Write};
 
+pub use self::bad::record as bad_record;
 use self::run::Run;
+pub use self::run::FEW_KEYS;
 use crate::event_record::EVENT_OCTETS;
 
 /// So many records, none of them bad.
