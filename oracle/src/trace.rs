@@ -49,11 +49,11 @@ pub fn print_outcomes<Output: Write>(
 /// behind them.
 #[inline]
 pub fn put_numbers(line: &mut NumberLine, count: &Count, outcome: &Outcome, behind: u8) {
-    let state = outcome.call.state;
+    let (state, incumbent, rerouting) = outcome.call.state.numbers();
     line.begin(count);
     line.put_number(outcome.answer.number(), b' ');
-    line.put_number(state.number(), b' ');
-    line.put_number(state.incumbent().unwrap_or(0), b' ');
-    line.put_number(state.rerouting().unwrap_or(0), b' ');
+    line.put_number(state, b' ');
+    line.put_number(incumbent, b' ');
+    line.put_number(rerouting, b' ');
     line.put_number(outcome.call.remote, behind);
 }

@@ -8,8 +8,8 @@ use crate::event_fault::fault;
 use crate::event_record::EVENT_OCTETS;
 use crate::trace;
 
-/// The ways of 01, "The trace", to print `bad`: the event's number, or the kind and the octet that is
-/// not named, or a record cut short.
+/// The ways of 01, "The trace", to print `bad`: the event's number, or the kind and the octet that
+/// is not named, or a record cut short.
 const REASONS: [&str; 14] = [
     "event", "0 1", "0 2", "0 3", "4 1", "4 8", "4 9", "6 1", "6 3", "7 1", "7 3", "7 8", "7 9",
     "short",

@@ -6,8 +6,8 @@ use crate::vocabulary::{
     Answer, CauseCode, ReroutingCause, SentCause, Signal, SignalKind, Signals,
 };
 
-/// `refused N`, `stays: SIGNALS` or `to STATE: SIGNALS`. A refusal that changed or sent something is
-/// none of these.
+/// `refused N`, `stays: SIGNALS` or `to STATE: SIGNALS`. A refusal that changed or sent something
+/// is none of these.
 pub fn deed(before: Call, after: &Outcome) -> String {
     let stays = after.call == before;
     let signals = signal_words(&after.signals);

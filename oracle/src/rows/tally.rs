@@ -89,7 +89,8 @@ impl<'a> Tally<'a> {
         self.list.rows.iter().zip(self.counts.iter().copied())
     }
 
-    /// What does not fit; with `all` also each row that is met though it is unreachable, or not met.
+    /// What does not fit; with `all` also each row that is met though it is unreachable, or is not
+    /// met.
     pub fn faults(&self, all: bool) -> Vec<String> {
         let mut faults = self.bad_ends.clone();
         let misfits = self.misfits.iter();
