@@ -89,6 +89,20 @@ impl State {
         }
     }
 
+    /// The state's number and the connections that it holds, 0 where it holds none.
+    pub fn numbers(self) -> (u8, u16, u16) {
+        match self {
+            State::Null => (0, 0, 0),
+            State::ReroutingIdle { incumbent } => (1, incumbent, 0),
+            State::HardRerouteTriggered => (2, 0, 0),
+            State::HardRerouteProceeding { rerouting } => (3, 0, rerouting),
+            State::SoftRerouteTriggered { incumbent } => (4, incumbent, 0),
+            State::SoftRerouteProceeding { incumbent, rerouting } => (5, incumbent, rerouting),
+            State::SoftRerouteInitiated { incumbent, rerouting } => (6, incumbent, rerouting),
+            State::AwaitingSwitchover { incumbent, rerouting } => (7, incumbent, rerouting),
+        }
+    }
+
     pub fn incumbent(self) -> Option<u16> {
         match self {
             State::Null => None,

@@ -13,7 +13,7 @@ use crate::table::Request;
 pub fn print(mut input: impl Read, out: &mut impl Write) -> Result<Option<String>> {
     let mut number: u64 = 0;
     let mut complaint = None;
-    let end = for_each(&mut input, |octets| {
+    let end = for_each(&mut input, out, |octets, out| {
         number += 1;
         match decode(octets) {
             Some(event) => writeln!(out, "{event}  # {number}")?,

@@ -19,6 +19,8 @@
 //! | `draw`, `maker` | the numbers drawn from a seed, and cases of any form made from them |
 //! | `make_tables` | cases over a whole table, made |
 //! | `make_trace` | event records of one run, made |
+//! | `make_damaged` | short runs that are damaged, made |
+//! | `rows` | the list of rows, and how often runs meet each |
 //! | `element` | the cause element sent on, a part of a string lent |
 //! | `elements` | cases of the cause element, read and printed |
 //! | `make_elements` | cases of the cause element, made |
@@ -37,6 +39,7 @@ mod elements;
 mod event_fault;
 mod event_record;
 mod list;
+mod make_damaged;
 mod make_elements;
 mod make_tables;
 mod make_trace;
@@ -45,6 +48,7 @@ mod number_line;
 mod record_input;
 mod release_rows;
 mod rerouting_rows;
+mod rows;
 mod script;
 mod table;
 mod tables;
@@ -79,16 +83,20 @@ mod trace_text;
 
 use std::env;
 use std::ffi::OsString;
+use std::fs;
 use std::io::{self, BufWriter, ErrorKind, Write};
+use std::path::Path;
 use std::process::ExitCode;
 
 use crate::maker::Maker;
+use crate::rows::{Made, Runs};
 
 const USAGE: &str =
     "usage: oracle cells < letters, oracle tables < cases, oracle elements < cases, \
     oracle trace < records, oracle watch < records, oracle script < lines, oracle list < records, \
-    oracle make-trace SEED COUNT [bad], oracle make-tables SEED COUNT [bad], \
-    oracle make-elements SEED COUNT [bad]";
+    oracle rows LIST [all] < records, oracle rows LIST [all] SEED:COUNT .., \
+    oracle make-trace SEED COUNT [bad], oracle make-damaged SEED COUNT FOLDER, \
+    oracle make-tables SEED COUNT [bad], oracle make-elements SEED COUNT [bad]";
 const USAGE_STATUS: u8 = 2;
 
 /// How much is written at once.
@@ -107,11 +115,31 @@ fn main() -> ExitCode {
         ["watch"] => status(watch::print(io::stdin().lock(), &mut out)),
         ["script"] => told(script::print(io::stdin().lock(), &mut out)),
         ["list"] => told(list::print(io::stdin().lock(), &mut out)),
+        ["rows", file, "all", runs @ ..] => rows_met(file, true, runs, &mut out),
+        ["rows", file, runs @ ..] => rows_met(file, false, runs, &mut out),
         ["make-trace", asked @ ..] => made(make_trace::write, asked, &mut out),
+        ["make-damaged", seed, count, folder] => damaged(seed, count, folder),
         ["make-tables", asked @ ..] => made(of_maker(make_tables::MAKER), asked, &mut out),
         ["make-elements", asked @ ..] => made(of_maker(make_elements::MAKER), asked, &mut out),
         _ => usage(),
     }
+}
+
+/// The rows that a run met which is read, or the runs that the words ask for.
+fn rows_met(file: &str, all: bool, words: &[&str], out: &mut impl Write) -> ExitCode {
+    let Some(made) = words.iter().map(|word| Made::of_word(word)).collect::<Option<Vec<Made>>>()
+    else {
+        return usage();
+    };
+    let list = match fs::read_to_string(file) {
+        Ok(list) => list,
+        Err(failure) => return status(Err(failure)),
+    };
+    let runs = match made.as_slice() {
+        [] => Runs::Read(io::stdin().lock()),
+        made => Runs::Made(made),
+    };
+    told(rows::print(&list, all, runs, out))
 }
 
 fn of_maker<Output: Write>(maker: Maker) -> impl Fn(u64, u64, bool, &mut Output) -> io::Result<()> {
@@ -131,6 +159,13 @@ fn made<Output: Write>(
     };
     match (seed.parse(), count.parse()) {
         (Ok(seed), Ok(count)) => status(write(seed, count, last_is_bad, out)),
+        _ => usage(),
+    }
+}
+
+fn damaged(seed: &str, count: &str, folder: &str) -> ExitCode {
+    match (seed.parse(), count.parse()) {
+        (Ok(seed), Ok(count)) => status(make_damaged::write(seed, count, Path::new(folder))),
         _ => usage(),
     }
 }

@@ -18,7 +18,16 @@ mod tests;
 
 use std::io::{Result, Write};
 
+pub use self::bad::record as bad_record;
 use self::run::Run;
+pub use self::run::FEW_KEYS;
+use crate::event_record::EVENT_OCTETS;
+
+/// So many records, none of them bad.
+pub fn records(seed: u64, count: u64) -> impl Iterator<Item = [u8; EVENT_OCTETS]> {
+    let mut run = Run::from_seed(seed);
+    (0..count).map(move |_| run.next_record())
+}
 
 /// Writes so many records, the last of them bad if that is asked; the others are the same either
 /// way.

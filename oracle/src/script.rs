@@ -11,39 +11,48 @@ mod line;
 #[cfg(test)]
 mod tests;
 
-use std::io::{BufRead, Result, Write};
+use std::io::{Read, Result, Write};
 
 use self::event::event;
-use self::line::Line;
+use self::line::{Line, LENGTH};
 use crate::event_record::encode;
+use crate::record_input::{read_some, BUFFER_OCTETS};
 
 /// What follows the records before a line that names no event: too short for a record, and no
 /// event's number, so that a trace of it ends in `bad`.
 const NO_EVENT: [u8; 1] = [255];
 
 /// Writes the record of each line. Where a line names no event the run ends, and the complaint is
-/// handed back.
-pub fn print(input: impl BufRead, out: &mut impl Write) -> Result<Option<String>> {
+/// handed back. What came is written before more is waited for.
+pub fn print(mut input: impl Read, out: &mut impl Write) -> Result<Option<String>> {
+    let mut buffer = vec![0; BUFFER_OCTETS];
     let mut line = Line::EMPTY;
     let mut number: u64 = 1;
-    for octet in input.bytes() {
-        match octet? {
-            b'\n' => {
-                if let Some(expected) = write_line(&line, out)? {
-                    return complaint(number, expected, out);
-                }
-                line = Line::EMPTY;
-                number += 1;
+    loop {
+        out.flush()?;
+        let count = read_some(&mut input, &mut buffer)?;
+        for &octet in &buffer[..count] {
+            // The length is judged before the words are, and nothing more of the line is read.
+            let expected = match octet {
+                b'\n' => write_line(&line, out)?,
+                other if line.put(other) => continue,
+                _ => Some(LENGTH),
+            };
+            if let Some(expected) = expected {
+                return complaint(number, expected, out);
             }
-            other => line.put(other),
+            line = Line::EMPTY;
+            number += 1;
+        }
+        if count == 0 {
+            break;
         }
     }
     // The last line may lack its end.
-    if let Some(expected) = write_line(&line, out)? {
-        return complaint(number, expected, out);
+    match write_line(&line, out)? {
+        Some(expected) => complaint(number, expected, out),
+        None => out.flush().map(|()| None),
     }
-    out.flush()?;
-    Ok(None)
 }
 
 fn complaint(number: u64, expected: &str, out: &mut impl Write) -> Result<Option<String>> {

@@ -12,10 +12,9 @@ use crate::trace_table::TraceTable;
 const FIRST_LINE: &[u8] = b"line answer state incumbent rerouting number\n";
 
 pub fn print(input: impl Read, out: &mut impl Write) -> Result<()> {
+    let mut line = NumberLine::EMPTY;
     print_outcomes(FIRST_LINE, input, out, |count, outcome, out| {
-        let mut line = NumberLine::EMPTY;
-        line.put(b'\n');
-        put_outcome(&mut line, count, outcome);
+        put_numbers(&mut line, count, outcome, b'\n');
         out.write_all(line.octets())
     })
 }
@@ -26,12 +25,12 @@ pub fn print_outcomes<Output: Write>(
     first_line: &[u8],
     mut input: impl Read,
     out: &mut Output,
-    print_line: impl Fn(&Count, &Outcome, &mut Output) -> Result<()>,
+    mut print_line: impl FnMut(&Count, &Outcome, &mut Output) -> Result<()>,
 ) -> Result<()> {
     out.write_all(first_line)?;
     let mut table = TraceTable::EMPTY;
     let mut count = Count::ZERO;
-    let end = for_each(&mut input, |octets| match decode(octets) {
+    let end = for_each(&mut input, out, |octets, out| match decode(octets) {
         None => Ok(false),
         Some(asked) => {
             count.next();
@@ -46,15 +45,15 @@ pub fn print_outcomes<Output: Write>(
     out.flush()
 }
 
-/// "record count from 1, answer, state, incumbent, rerouting, incarnation number", in front of what
-/// the line holds.
+/// "record count from 1, answer, state, incumbent, rerouting, incarnation number", and one octet
+/// behind them.
 #[inline]
-pub fn put_outcome(line: &mut NumberLine, count: &Count, outcome: &Outcome) {
-    let state = outcome.call.state;
-    line.put_number(outcome.call.remote);
-    line.put_field(state.rerouting().unwrap_or(0));
-    line.put_field(state.incumbent().unwrap_or(0));
-    line.put_field(state.number());
-    line.put_field(outcome.answer.number());
-    line.put_count(count);
+pub fn put_numbers(line: &mut NumberLine, count: &Count, outcome: &Outcome, behind: u8) {
+    let (state, incumbent, rerouting) = outcome.call.state.numbers();
+    line.begin(count);
+    line.put_number(outcome.answer.number(), b' ');
+    line.put_number(state, b' ');
+    line.put_number(incumbent, b' ');
+    line.put_number(rerouting, b' ');
+    line.put_number(outcome.call.remote, behind);
 }

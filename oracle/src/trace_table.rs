@@ -42,6 +42,10 @@ impl TraceTable {
         }
     }
 
+    pub fn is_full(&self) -> bool {
+        self.place_of(0).is_none()
+    }
+
     fn open(&mut self, key: u32, named: Option<Services>) -> Outcome {
         if let Some(place) = self.place_of(key) {
             return self.calls[place].refused(Answer::KeyOnRecord);

@@ -1,9 +1,11 @@
 //! What the trace and the watch print where records are bad or cut short, where there is no such
-//! call, over a full table, and however the input comes in pieces.
+//! call, over a full table, and however the input comes in pieces; and that each piece is answered
+//! before the next is waited for.
 
-use std::io::{Read, Result};
+use std::cell::RefCell;
+use std::io::{BufWriter, Read, Result, Write};
 
-use crate::{trace, watch};
+use crate::{list, script, trace, watch};
 
 const OPEN_7: [u8; 16] = [0, 1, 1, 2, 0, 0, 0, 7, 0, 0, 0, 0, 0, 0, 0, 0];
 const TRIGGER_7: [u8; 16] = [1, 9, 9, 9, 0, 0, 0, 7, 9, 9, 9, 9, 9, 9, 9, 9];
@@ -116,4 +118,74 @@ fn long_inputs_are_read_whole() {
     assert!(text.ends_with("\n99999 103 4 1 0 0\n100000 0 4 1 0 0\n"));
     let cut = &records[..records.len() - 1];
     assert!(traced(cut).ends_with("\n99999 103 4 1 0 0\nbad\n"));
+}
+
+/// What has gone out behind a writer that keeps much.
+struct Sent<'a>(&'a RefCell<Vec<u8>>);
+
+impl Write for Sent<'_> {
+    fn write(&mut self, octets: &[u8]) -> Result<usize> {
+        self.0.borrow_mut().write(octets)
+    }
+
+    fn flush(&mut self) -> Result<()> {
+        Ok(())
+    }
+}
+
+/// Hands out pieces, and notes how many line ends or octets had gone out when each was asked for.
+struct Asked<'a, Measure> {
+    pieces: Pieces<'a>,
+    sent: &'a RefCell<Vec<u8>>,
+    measure: Measure,
+    noted: &'a RefCell<Vec<usize>>,
+}
+
+impl<Measure: Fn(&[u8]) -> usize> Read for Asked<'_, Measure> {
+    fn read(&mut self, buffer: &mut [u8]) -> Result<usize> {
+        self.noted.borrow_mut().push((self.measure)(&self.sent.borrow()));
+        self.pieces.read(buffer)
+    }
+}
+
+/// What had gone out at each read of the input in such pieces.
+fn sent_at_each_read(
+    input: &[u8],
+    size: usize,
+    measure: impl Fn(&[u8]) -> usize,
+    print: impl Fn(&mut dyn Read, &mut dyn Write),
+) -> Vec<usize> {
+    let (sent, noted) = (RefCell::new(Vec::new()), RefCell::new(Vec::new()));
+    let mut asked = Asked { pieces: Pieces(input, size), sent: &sent, measure, noted: &noted };
+    print(&mut asked, &mut BufWriter::with_capacity(1 << 20, Sent(&sent)));
+    noted.into_inner()
+}
+
+/// Pieces of one record and a half: 0, 1, 3 and 4 records are whole, then the input is at its end.
+#[test]
+fn whole_records_are_answered_before_the_next_read() {
+    let input = [OPEN_7, TRIGGER_7, OPEN_7, TRIGGER_7].concat();
+    let lines = |sent: &[u8]| sent.iter().filter(|&&octet| octet == b'\n').count();
+    let trace = sent_at_each_read(&input, 24, lines, |mut input, mut out| {
+        trace::print(&mut input, &mut out).expect("a vector takes every byte");
+    });
+    assert_eq!(trace, [1, 2, 4, 5]);
+    let watch = sent_at_each_read(&input, 24, lines, |mut input, mut out| {
+        watch::print(&mut input, &mut out).expect("a vector takes every byte");
+    });
+    assert_eq!(watch, [1, 2, 4, 5]);
+    let list = sent_at_each_read(&input, 24, lines, |mut input, mut out| {
+        list::print(&mut input, &mut out).expect("a vector takes every byte");
+    });
+    assert_eq!(list, [0, 1, 3, 4]);
+}
+
+/// Pieces of 15 octets of lines of 10.
+#[test]
+fn whole_lines_are_written_before_the_next_read() {
+    let script =
+        sent_at_each_read(&b"trigger 7\n".repeat(4), 15, <[u8]>::len, |mut input, mut out| {
+            script::print(&mut input, &mut out).expect("a vector takes every byte");
+        });
+    assert_eq!(script, [0, 16, 48, 64]);
 }

@@ -4,17 +4,16 @@
 use std::io::{Read, Result, Write};
 
 use crate::number_line::NumberLine;
-use crate::trace::{print_outcomes, put_outcome};
+use crate::trace::{print_outcomes, put_numbers};
 use crate::words::SignalWords;
 
 const FIRST_LINE: &[u8] = b"line answer state incumbent rerouting number last signals\n";
 
 pub fn print(input: impl Read, out: &mut impl Write) -> Result<()> {
+    let mut line = NumberLine::EMPTY;
     print_outcomes(FIRST_LINE, input, out, |count, outcome, out| {
-        let mut line = NumberLine::EMPTY;
-        line.put_field(outcome.call.last);
-        line.put(b' ');
-        put_outcome(&mut line, count, outcome);
+        put_numbers(&mut line, count, outcome, b' ');
+        line.put_number(outcome.call.last, b' ');
         out.write_all(line.octets())?;
         writeln!(out, "{}", SignalWords(&outcome.signals))
     })

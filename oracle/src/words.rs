@@ -12,9 +12,8 @@ use crate::vocabulary::{
 impl Display for Call {
     fn fmt(&self, out: &mut Formatter<'_>) -> Result {
         let Call { key, last, remote, .. } = *self;
-        let (hard, soft, state) = (u8::from(self.hard), self.soft.number(), self.state.number());
-        let incumbent = self.state.incumbent().unwrap_or(0);
-        let rerouting = self.state.rerouting().unwrap_or(0);
+        let (hard, soft) = (u8::from(self.hard), self.soft.number());
+        let (state, incumbent, rerouting) = self.state.numbers();
         write!(out, "{key} {hard} {soft} {state} {incumbent} {rerouting} {last} {remote}")
     }
 }

@@ -14,7 +14,7 @@ use crate::trace_table::{TraceTable, RECORD_COUNT};
 use crate::vocabulary::Event;
 
 /// Some of them alike in their low octets.
-const FEW_KEYS: [u32; 7] = [1, 2, 3, 7, 257, 16_777_217, u32::MAX];
+pub const FEW_KEYS: [u32; 7] = [1, 2, 3, 7, 257, 16_777_217, u32::MAX];
 const FIRST_OF_CROWD: u32 = 1_000;
 
 /// The kinds of an event, by their numbers (01, "The trace").

@@ -7,7 +7,7 @@ use crate::call::{Call, Services, Soft, State};
 use crate::draw::Draw;
 use crate::event_record::{encode, EventRecord, EVENT_OCTETS};
 use crate::table::Request;
-use crate::vocabulary::{CalledRelease, Crankback, Event};
+use crate::vocabulary::{CalledRelease, Crankback, Event, ReroutingCause};
 
 pub const KEY: u32 = 99;
 
@@ -69,6 +69,12 @@ impl WornCall {
         }
     }
 
+    /// A cause, which is not read there (decision 8), in every other life on this way.
+    fn cause_on_soft_path(&self) -> Option<ReroutingCause> {
+        let round = self.life / WAYS.len();
+        (round % 2 == 0).then_some(ReroutingCause::OUTSIDE_ANY_DOMAIN)
+    }
+
     fn last_event(&self, draw: &mut Draw, call: Call) -> Event {
         let crankback = match self.way() {
             Way::SoftPath | Way::HardPathAlternate => Crankback::AlternateFound,
@@ -88,7 +94,10 @@ impl WornCall {
             State::SoftRerouteTriggered { .. } => {
                 draw.among([Event::PathFound, Event::PathFound, Event::NoPath])
             }
-            State::SoftRerouteProceeding { rerouting, .. } => released(rerouting, crankback),
+            State::SoftRerouteProceeding { rerouting, .. } => {
+                let cause = self.cause_on_soft_path();
+                Event::CalledRelease(CalledRelease { connection: rerouting, cause, crankback })
+            }
             State::SoftRerouteInitiated { .. } if draw.one_in(8) => Event::Ready,
             State::SoftRerouteInitiated { .. } => setup,
             State::AwaitingSwitchover { rerouting, .. } if draw.one_in(8) => {

@@ -1,8 +1,14 @@
-//! The words of one line, taken octet by octet: a line of any length is read in the same room.
+//! The words of one line, taken octet by octet: only what can name something is kept of them.
 //!
 //! Words are parted by blanks: the space, the tab and the carriage return. `#` ends the last word,
 //! and nothing behind it is read. Any other octet is part of a word; only ASCII letters and digits
 //! occur in a word that names something.
+
+/// In front of a comment, or of the end of the line.
+const MOST_OCTETS: usize = 4_096;
+
+/// Expected of a line that has more.
+pub const LENGTH: &str = "at most 4096 octets before a comment or the end of the line";
 
 /// `called KEY CONNECTION cause N noalternate` is the longest, and one word more is one too many.
 const MOST_WORDS: usize = 6 + 1;
@@ -52,6 +58,8 @@ pub struct Line {
     words: [Word; MOST_WORDS],
     /// How many words have begun, up to the most.
     begun: usize,
+    /// The octets in front of a comment.
+    octets: usize,
     within_word: bool,
     within_comment: bool,
 }
@@ -60,18 +68,25 @@ impl Line {
     pub const EMPTY: Self = Self {
         words: [Word::EMPTY; MOST_WORDS],
         begun: 0,
+        octets: 0,
         within_word: false,
         within_comment: false,
     };
 
-    /// Takes one more octet, which is no line end.
-    pub fn put(&mut self, octet: u8) {
+    /// Takes one more octet, which is no line end. Hands back whether there was room for it.
+    pub fn put(&mut self, octet: u8) -> bool {
+        if octet == b'#' {
+            self.within_comment = true;
+        }
+        if self.within_comment {
+            return true;
+        }
+        self.octets += 1;
         match octet {
-            _ if self.within_comment => {}
-            b'#' => self.within_comment = true,
             b' ' | b'\t' | b'\r' => self.within_word = false,
             letter => self.put_letter(letter),
         }
+        self.octets <= MOST_OCTETS
     }
 
     /// Words behind the most are dropped: the one too many is there already.

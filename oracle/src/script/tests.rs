@@ -67,8 +67,9 @@ fn keys_have_32_bits() {
 
 #[test]
 fn blanks_comments_and_line_ends_are_free() {
-    let long_blank = " ".repeat(100_000);
-    let zeros = "0".repeat(100_000);
+    let blanks = " ".repeat(1_300);
+    let zeros = "0".repeat(4_000);
+    let long_comment = "x # \r".repeat(20_000);
     for line in [
         "trigger 7",
         "trigger 7\n",
@@ -79,8 +80,9 @@ fn blanks_comments_and_line_ends_are_free() {
         "# comment\ntrigger 7 # comment # \n#",
         "trigger 7 # \u{fc}ber\n",
         "trigger 007\n",
-        &format!("{long_blank}trigger{long_blank}7{long_blank}"),
-        &format!("trigger {zeros}7 #{long_blank}\n"),
+        &format!("{blanks}trigger{blanks}7{blanks}"),
+        &format!("trigger {zeros}7 #{blanks}\n"),
+        &format!("#{long_comment}\ntrigger 7#{long_comment}\n#{long_comment}"),
     ] {
         names(line, TRIGGER, 0);
     }
@@ -165,7 +167,38 @@ fn octets_that_are_no_letters_name_nothing() {
         }
     }
     names_nothing(b"\xef\xbb\xbftrigger 7", EVENT);
-    names_nothing(&[b'x'; 100_000], EVENT);
-    names_nothing(&[b'9'; 100_000], EVENT);
-    names_nothing(&[b"trigger ".as_slice(), &[b'9'; 100_000]].concat(), KEY);
+    names_nothing(&[b'x'; 4_096], EVENT);
+    names_nothing(&[b'9'; 4_096], EVENT);
+    names_nothing(&[b"trigger ".as_slice(), &[b'9'; 4_088]].concat(), KEY);
+}
+
+/// `trigger 7` behind or in front of so many octets that the line has just as many as are allowed,
+/// with a comment behind it or none.
+#[test]
+fn lines_have_4096_octets_at_most() {
+    let length = "at most 4096 octets before a comment or the end of the line";
+    for filler in ["0", " ", "\t", "\r"] {
+        let most = format!("trigger {}7", filler.repeat(4_087));
+        assert_eq!(most.len(), 4_096);
+        names(&most, TRIGGER, 0);
+        names(&format!("{most}\n"), TRIGGER, 0);
+        names(&format!("{most}# comment {most}{most}\n"), TRIGGER, 0);
+        for more in [" ", "\r", "7", " # comment", "\0"] {
+            names_nothing(format!("{most}{more}").as_bytes(), length);
+        }
+    }
+    let blanks = " ".repeat(4_096);
+    names(&format!("{blanks}\n{blanks}#\ntrigger 7"), TRIGGER, 0);
+    names_nothing(format!("{blanks} ").as_bytes(), length);
+    names_nothing(format!("{blanks} #").as_bytes(), length);
+}
+
+/// Whatever the words are: the length is judged first.
+#[test]
+fn length_is_judged_before_the_words() {
+    let length = "at most 4096 octets before a comment or the end of the line";
+    names_nothing(&[b'x'; 4_097], length);
+    names_nothing(&[b'\xff'; 100_000], length);
+    names_nothing(format!("close 7 {}", "x ".repeat(2_045)).as_bytes(), length);
+    names_nothing(format!("trigger 7 {}", "7 ".repeat(50_000)).as_bytes(), length);
 }

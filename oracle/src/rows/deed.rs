@@ -1,0 +1,60 @@
+//! What was done, in the words of the list.
+
+use crate::call::{Call, Outcome};
+use crate::rows::terms::STATES;
+use crate::vocabulary::{
+    Answer, CauseCode, ReroutingCause, SentCause, Signal, SignalKind, Signals,
+};
+
+/// `refused N`, `stays: SIGNALS` or `to STATE: SIGNALS`. A refusal that changed or sent something
+/// is none of these.
+pub fn deed(before: Call, after: &Outcome) -> String {
+    let stays = after.call == before;
+    let signals = signal_words(&after.signals);
+    if after.answer != Answer::Done {
+        let number = after.answer.number();
+        let changed = if stays && signals == NOTHING { "" } else { " with a change" };
+        return format!("refused {number}{changed}");
+    }
+    if stays {
+        return format!("stays: {signals}");
+    }
+    format!("to {}: {signals}", STATES[usize::from(after.call.state.number())])
+}
+
+const NOTHING: &str = "nothing sent";
+
+fn signal_words(signals: &Signals) -> String {
+    let sent = signals.iter().filter(|signal| signal.kind != SignalKind::None);
+    let words: Vec<String> = sent.map(one_signal).collect();
+    if words.is_empty() {
+        NOTHING.to_string()
+    } else {
+        words.join(", ")
+    }
+}
+
+fn one_signal(signal: &Signal) -> String {
+    let kind = match signal.kind {
+        SignalKind::None => "none",
+        SignalKind::TimerStart => "timer start",
+        SignalKind::TimerStop => "timer stop",
+        SignalKind::Switch => "switch",
+        SignalKind::ReleaseCalling => "release calling",
+        SignalKind::ReleaseIncumbent => "release incumbent",
+        SignalKind::ReleaseRerouting => "release rerouting",
+        SignalKind::Setup => "setup",
+        SignalKind::Connect => "connect",
+        SignalKind::Reject => "reject",
+    };
+    let cause = match signal.rerouting_cause {
+        SentCause::Absent => String::new(),
+        SentCause::Number(ReroutingCause(number)) => format!(" #{number}"),
+        SentCause::AsReceived(_) => " as received".to_string(),
+    };
+    let code = match signal.cause_code {
+        CauseCode::Section66 => "",
+        CauseCode::CallRejected => " cause 21",
+    };
+    format!("{kind}{cause}{code}")
+}
