@@ -2,7 +2,7 @@
 use Prim.Native.Nat.{ℕ, _<_}
 use native.Mathlib.Omega.{arith}
 use mathlib.Core.Path.{_≡_, refl}
-use mathlib.Core.Bool.{Bool, true, false, cond}
+use mathlib.Core.Bool.{Bool, true, false, _||_, cond}
 use lib.Dec.{eqb, ltb}
 use borrow.Author.Tests.{ltb-true, ltb-false, lt-ltb, le-ltb, ne-eqb}
 use Rattle.source_table.specs.declared.Act.{Act}
@@ -11,7 +11,6 @@ use Rattle.event_record.specs.declared.Request.{Request}
 use Rattle.event_record.specs.declared.Request.the-variants.{Bad, Asks}
 use Rattle.event_fault.specs.Fault.{openFault, connectionFault, connectFault, callingFault, calledFault, kindFault}
 use Rattle.event_fault.specs.declared.Expected.{Expected}
-use Rattle.event_fault.specs.declared.Expected.the-variants.{SmallConnection}
 use Rattle.event_fault.specs.declared.Fault.{Fault}
 use Rattle.event_fault.specs.declared.Fault.the-variants.{NoFault, Misses}
 use Rattle.event_fault.proofs.ByKind.{by-kind}
@@ -33,16 +32,22 @@ open-alike : (named hard soft : ℕ) → Alike (openOf named hard soft) (openFau
 open-alike named hard soft = sound-where (eqb named 0) _ (tested (ltb 1 named) _ _ _ (tested (ltb 1 hard) _ _ _ (tested (ltb 2 soft) _ _ _ both-sound)))
 
 -- a number of four octets is above 65,535 exactly where one of the first two is not 0
-connection-alike : (a b c d : ℕ) (act : Act) → c < 256 → d < 256 → Alike (cond (ltb 65535 (numberOf a b c d)) Bad (Asks act)) (connectionFault a b)
-connection-alike a b c d act p q = by-highest (ltb 0 a) refl
+above-exactly : (a b c d : ℕ) → c < 256 → d < 256 → ltb 65535 (numberOf a b c d) ≡ (ltb 0 a || ltb 0 b)
+above-exactly a b c d p q = by-tests (ltb 0 a) (ltb 0 b) refl refl
   where
-    by-high : ltb 0 a ≡ false → (t : Bool) → ltb 0 b ≡ t → Alike (cond (ltb 65535 (numberOf a b c d)) Bad (Asks act)) (cond t (Misses 9 b SmallConnection) NoFault)
-    by-high zero true e = rw (lt-ltb 65535 (numberOf a b c d) (omega (arith, ltb-true 0 b e))) both-bad
-    by-high zero false e = rw (le-ltb 65535 (numberOf a b c d) (omega (arith, ltb-false 0 a zero, ltb-false 0 b e))) both-sound
+    by-tests : (s t : Bool) → ltb 0 a ≡ s → ltb 0 b ≡ t → ltb 65535 (numberOf a b c d) ≡ (s || t)
+    by-tests true t e f = lt-ltb 65535 (numberOf a b c d) (omega (arith, ltb-true 0 a e))
+    by-tests false true e f = lt-ltb 65535 (numberOf a b c d) (omega (arith, ltb-true 0 b f))
+    by-tests false false e f = le-ltb 65535 (numberOf a b c d) (omega (arith, ltb-false 0 a e, ltb-false 0 b f))
 
-    by-highest : (t : Bool) → ltb 0 a ≡ t → Alike (cond (ltb 65535 (numberOf a b c d)) Bad (Asks act)) (cond t (Misses 8 a SmallConnection) (cond (ltb 0 b) (Misses 9 b SmallConnection) NoFault))
-    by-highest true e = rw (lt-ltb 65535 (numberOf a b c d) (omega (arith, ltb-true 0 a e))) both-bad
-    by-highest false e = by-high e (ltb 0 b) refl
+tested-twice : (s t : Bool) (byte value other another : ℕ) (expected wanted : Expected) (act : Act) →
+    Alike (cond (s || t) Bad (Asks act)) (cond s (Misses byte value expected) (cond t (Misses other another wanted) NoFault))
+tested-twice true t byte value other another expected wanted act = both-bad
+tested-twice false true byte value other another expected wanted act = both-bad
+tested-twice false false byte value other another expected wanted act = both-sound
+
+connection-alike : (a b c d : ℕ) (act : Act) → c < 256 → d < 256 → Alike (cond (ltb 65535 (numberOf a b c d)) Bad (Asks act)) (connectionFault a b)
+connection-alike a b c d act p q = rw (above-exactly a b c d p q) (tested-twice (ltb 0 a) (ltb 0 b) _ _ _ _ _ _ _)
 
 module _ (first second third a b c d : ℕ) (p : c < 256) (q : d < 256) where
   connect-alike : Alike (connectOf first (numberOf a b c d)) (connectFault first a b)
