@@ -13,4 +13,6 @@ pub mod Source
 pub mod SourceWords
 pub mod SourceTable
 pub mod EventRecord
+pub mod EventFault
+pub mod EventWords
 pub mod CauseElement
