@@ -1,4 +1,4 @@
--- An event record of the trace (01, "The trace", and decisions 22 and 23 on what is not read). Assumes nothing.
+-- An event record of the trace, read (01, "The trace", and decisions 22 and 23 on what is not read). Assumes nothing.
 use Prim.Native.Nat.{ℕ, _+_, _*_}
 use mathlib.Core.Bool.{cond}
 use mathlib.Core.List.{List}

@@ -1,8 +1,12 @@
-// An event record of the trace, 16 octets, read into a key and what is done with it (01, "The trace").
+// An event record of the trace, 16 octets, read into a key and what is done with it, and written (01, "The trace").
 //
 // Whether a value is named is seen from the octets alone; an octet that is not read never makes a record bad.
 ghost use mathlib.Core.Path.{_≡_};
 ghost use Rattle.event_record.specs.Record.{numberOf, softOf, crankbackOf, causeOf, openOf, connectOf, callingOf, calledOf, plainOf, askedOf, decodedOf};
+ghost use Rattle.event_record.specs.Encoded.{flagNumber, presentNumber, causeNumber, brought, openValues, eventValues, actValues, laidOut, recordOf};
+ghost use Prim.Native.Nat.{_%_};
+ghost use Rattle.signal.specs.Numbers.{crankbackNumber};
+ghost use Rattle.source_states.specs.declared.Event.the-variants.{FromCalling, FromCalled};
 use signal::Crankback;
 use signal::ReceivedCause;
 use signal::ReroutingCause;
@@ -22,6 +26,15 @@ pub enum Request {
 pub struct Decoded {
     pub key: u32,
     pub request: Request,
+}
+
+// What is written of an event besides its key: octets 0 to 3, and the number that stands behind the key.
+struct Values {
+    kind: u8,
+    first: u8,
+    second: u8,
+    third: u8,
+    number: u32,
 }
 
 // Four octets, the first the highest.
@@ -179,4 +192,151 @@ pub fn decode(octets: [u8; 16]) -> Decoded
     let named = number(octets[8], octets[9], octets[10], octets[11]);
     let request = asked(octets[0], octets[1], octets[2], octets[3], named);
     Decoded { key, request }
+}
+
+fn flag_number(flag: bool) -> u8
+    ensures { λ r. ⌜ r ≡ flagNumber flag ⌝ }
+{
+    if flag {
+        return 1;
+    }
+    0
+}
+
+fn present_number(cause: ReceivedCause) -> u8
+    ensures { λ r. ⌜ r ≡ presentNumber cause ⌝ }
+{
+    match cause {
+        ReceivedCause::NoCause => 0,
+        ReceivedCause::WithCause(_) => 1,
+    }
+}
+
+fn cause_number(cause: ReceivedCause) -> u8
+    ensures { λ r. ⌜ r ≡ causeNumber cause ⌝ }
+{
+    match cause {
+        ReceivedCause::NoCause => 0,
+        ReceivedCause::WithCause(given) => given.number,
+    }
+}
+
+fn crankback_number(back: Crankback) -> u8
+    ensures { λ r. ⌜ r ≡ crankbackNumber back ⌝ }
+{
+    match back {
+        Crankback::NoCrankback => 0,
+        Crankback::AlternateFound => 1,
+        Crankback::NoAlternate => 2,
+    }
+}
+
+fn brought(kind: u8, first: u8, second: u8, third: u8, number: u32) -> Values
+    ensures { λ r. ⌜ r ≡ brought kind first second third number ⌝ }
+{
+    Values {
+        kind,
+        first,
+        second,
+        third,
+        number,
+    }
+}
+
+fn open_values(wanted: Wanted) -> Values
+    ensures { λ r. ⌜ r ≡ openValues wanted ⌝ }
+{
+    match wanted {
+        Wanted::Unnamed => brought(0, 0, 0, 0, 0),
+        Wanted::Named(services) => {
+            let soft = services.soft;
+            brought(0, 1, flag_number(services.hard), soft.number(), 0)
+        }
+    }
+}
+
+fn calling_values(cause: ReceivedCause) -> Values
+    ensures { λ r. ⌜ r ≡ eventValues (FromCalling cause) ⌝ }
+{
+    brought(6, present_number(cause), cause_number(cause), 0, 0)
+}
+
+fn called_values(connection: u16, cause: ReceivedCause, back: Crankback) -> Values
+    ensures { λ r. ⌜ r ≡ eventValues (FromCalled connection cause back) ⌝ }
+{
+    brought(
+        7,
+        present_number(cause),
+        cause_number(cause),
+        crankback_number(back),
+        connection as u32,
+    )
+}
+
+fn event_values(event: Event) -> Values
+    ensures { λ r. ⌜ r ≡ eventValues event ⌝ }
+{
+    match event {
+        Event::Trigger => brought(1, 0, 0, 0, 0),
+        Event::PathFound => brought(2, 0, 0, 0, 0),
+        Event::NoPath => brought(3, 0, 0, 0, 0),
+        Event::Connect(connection, policy) => brought(
+            4,
+            flag_number(policy),
+            0,
+            0,
+            connection as u32,
+        ),
+        Event::Setup(switchover, number) => brought(5, switchover.code, 0, 0, number),
+        Event::FromCalling(cause) => calling_values(cause),
+        Event::FromCalled(connection, cause, back) => called_values(connection, cause, back),
+        Event::Ready => brought(8, 0, 0, 0, 0),
+        Event::Expiry => brought(9, 0, 0, 0, 0),
+    }
+}
+
+fn act_values(act: Act) -> Values
+    ensures { λ r. ⌜ r ≡ actValues act ⌝ }
+{
+    match act {
+        Act::Opens(wanted) => open_values(wanted),
+        Act::Meets(event) => event_values(event),
+    }
+}
+
+// The lowest octet of a number.
+fn octet(number: u32) -> u8
+    ensures { λ r. ⌜ r ≡ number % 256 ⌝ }
+{
+    (number % 256) as u8
+}
+
+fn laid_out(key: u32, values: Values) -> [u8; 16]
+    ensures { λ r. ⌜ r ≡ laidOut key values ⌝ }
+{
+    let number = values.number;
+    [
+        values.kind,
+        values.first,
+        values.second,
+        values.third,
+        octet(key / 16777216),
+        octet(key / 65536),
+        octet(key / 256),
+        octet(key),
+        octet(number / 16777216),
+        octet(number / 65536),
+        octet(number / 256),
+        octet(number),
+        0,
+        0,
+        0,
+        0,
+    ]
+}
+
+pub fn encode(key: u32, act: Act) -> [u8; 16]
+    ensures { λ r. ⌜ r ≡ recordOf key act ⌝ }
+{
+    laid_out(key, act_values(act))
 }

@@ -1,0 +1,53 @@
+-- What is claimed of a fault: that it is found exactly in a bad record, and that the byte told is the first that is not named. Proofs: proofs/Claims.antt. Assumes nothing.
+use Prim.Native.Nat.{ℕ, _≤_, _<_}
+use mathlib.Core.Bool.{Bool, _||_, cond, not}
+use mathlib.Core.Logic.{_↔_}
+use mathlib.Core.Path.{_≡_}
+use mathlib.Core.List.{List}
+use lib.Dec.{eqb}
+use Rattle.event_record.specs.Record.{octet, decodedOf}
+use Rattle.event_record.specs.declared.Request.the-variants.{Bad}
+use Rattle.event_fault.specs.Fault.{faultOf}
+use Rattle.event_fault.specs.declared.Expected.{Expected}
+use Rattle.event_fault.specs.declared.Fault.the-variants.{NoFault, Misses}
+
+abbrev pub Octets : List ℕ → Type 0
+Octets os = (i : ℕ) → octet os i < 256
+
+-- A fault is found exactly where the record is bad.
+abbrev pub ExactlyTheBad : Type 0
+ExactlyTheBad = (os : List ℕ) → Octets os → (decodedOf os .request ≡ Bad) ↔ (faultOf os ≡ NoFault → ⊥)
+
+-- The highest value that is named for each byte (01, "The trace"); 255 where the byte is not read, or may have any value. Of a record: its kind is byte 0, and byte 1 of an opening tells whether
+-- bytes 2 and 3 are read
+abbrev pub isRelease : ℕ → Bool
+isRelease kind = eqb kind 6 || eqb kind 7
+
+abbrev pub hasConnection : ℕ → Bool
+hasConnection kind = eqb kind 4 || eqb kind 7
+
+abbrev pub highestFirst : ℕ → ℕ
+highestFirst kind = cond (eqb kind 0 || (eqb kind 4 || isRelease kind)) 1 255
+
+abbrev pub highestSecond : ℕ → ℕ → ℕ
+highestSecond kind first = cond (eqb kind 0) (cond (eqb first 0) 255 1) 255
+
+abbrev pub highestThird : ℕ → ℕ → ℕ
+highestThird kind first = cond (eqb kind 0) (cond (eqb first 0) 255 2) (cond (isRelease kind) 2 255)
+
+abbrev pub highest : ℕ → ℕ → ℕ → ℕ
+highest kind first byte =
+    cond (eqb byte 0) 9
+    (cond (eqb byte 1) (highestFirst kind)
+    (cond (eqb byte 2) (highestSecond kind first)
+    (cond (eqb byte 3) (highestThird kind first)
+    (cond (eqb byte 8 || eqb byte 9) (cond (hasConnection kind) 0 255) 255))))
+
+abbrev pub Named : List ℕ → ℕ → Type 0
+Named os i = octet os i ≤ highest (octet os 0) (octet os 1) i
+
+-- The byte that a fault tells has the value told, which is not named, and every byte before it is named.
+abbrev pub TheFirst : Type 0
+TheFirst =
+    (os : List ℕ) → Octets os → (byte value : ℕ) (expected : Expected) → faultOf os ≡ Misses byte value expected →
+    (octet os byte ≡ value) × ((Named os byte → ⊥) × ((i : ℕ) → i < byte → Named os i))

@@ -1,0 +1,3 @@
+pub mod Fault
+pub mod Words
+pub mod Claims

@@ -1,0 +1,17 @@
+-- `put_connect` meets its contract. Assumes nothing.
+use borrow.Author.Needs.{needs}
+use Rattle.lines.proofs.Laws.{and-then}
+use Rattle.event_words.proofs.put_connect.Statement.{statement}
+use Rattle.event_words.proofs.put_connect.Tie as tie
+
+returns : tie.Need-returns
+returns c = and-then _ _ _ _ _ (c .before .before .before .before .before .before .put-then .ensures) (c .before .before .put-policy .ensures)
+
+pub put-connect-spec : {M : Type 1} → statement M
+put-connect-spec =
+    tie.close
+    (tie.spec
+    (λ c κs. search needs)
+    (λ c κs. search needs)
+    (λ c. search needs)
+    returns)

@@ -1,0 +1,23 @@
+-- `put_rest` meets its contract. Assumes nothing.
+use borrow.Author.Needs.{needs}
+use Rattle.event_words.proofs.put_rest.Statement.{statement}
+use Rattle.event_words.proofs.put_rest.Tie as tie
+
+returns : tie.Need-returns
+returns c = rw (c .before .before .before .before .before .act .given .1) (c .before .before .put-wanted .ensures)
+
+returns-2 : tie.Need-returns-2
+returns-2 c = rw (c .before .before .before .before .before .act2 .given .1) (c .before .before .put-values .ensures)
+
+pub put-rest-spec : {M : Type 1} → statement M
+put-rest-spec =
+    tie.close
+    (tie.spec
+    (λ c. search needs)
+    (λ c κs. search needs)
+    (λ c. search needs)
+    (λ c κs. search needs)
+    (λ c. search needs)
+    returns
+    (λ c. search needs)
+    returns-2)
