@@ -1,0 +1,17 @@
+-- What is claimed of a line of a script, in terms that do not follow the parser. Proofs: proofs/Claims.antt. Assumes nothing.
+use Prim.Native.Nat.{ℕ}
+use mathlib.Core.Path.{_≡_}
+use Rattle.source_table.specs.declared.Act.{Act}
+use Rattle.event_record.specs.Record.{decodedOf}
+use Rattle.event_record.specs.Encoded.{recordOf}
+use Rattle.event_record.specs.Claims.{Fits}
+use Rattle.event_record.specs.declared.Request.the-variants.{Asks}
+use Rattle.event_words.specs.Words.{eventText}
+use Rattle.script_line.specs.declared.Parsed.the-variants.{Told}
+use Rattle.script_line.specs.Script.{parsedOf}
+
+-- The line that tells an event is read as that event (docs/BENCH.md, "list"), and the record that is written of it decodes to it again.
+abbrev pub RoundTrip : Type 0
+RoundTrip =
+    (key : ℕ) (act : Act) → Fits key act →
+    (parsedOf (eventText key act) ≡ Told key act) × (decodedOf (recordOf key act) ≡ record { key = key; request = Asks act })
