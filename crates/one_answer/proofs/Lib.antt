@@ -14,3 +14,6 @@ pub mod SourceWords
 pub mod SourceTable
 pub mod EventRecord
 pub mod CauseElement
+pub mod LineWords
+pub mod ScriptWords
+pub mod ScriptLine
