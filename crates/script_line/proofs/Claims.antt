@@ -1,7 +1,7 @@
 -- The claims on a line of a script (specs/Claims), proved. Assumes nothing.
 use Prim.Native.Nat.{ℕ, _≤_, _<_}
 use native.Mathlib.Omega.{arith}
-use mathlib.Core.Path.{_≡_, refl, sym, _∙_, ap}
+use mathlib.Core.Path.{_≡_, refl, sym, _∙_, ap, subst}
 use mathlib.Core.Bool.{Bool, true, false, cond}
 use mathlib.Core.List.{List, [], _∷_, _++_, append-nil}
 use lib.Dec.{eqb}
@@ -33,6 +33,7 @@ use Rattle.script_line.specs.declared.Parsed.{Parsed}
 use Rattle.script_line.specs.declared.Parsed.the-variants.{Told}
 use Rattle.script_line.specs.Script.{nameOf, endOf, softOf, openOf, policyOf, withNumber, connectOf, codeOf, incarnationOf, setupOf, callingCauseOf, callingOf, crankbackOf, calledCauseOf, releaseOf, calledOf, argumentsOf, keyedOf, parsedOf}
 use Rattle.script_line.specs.Claims as claim
+use Rattle.script_line.proofs.Fits.{Sound, fits-of, parsed-sound}
 use Rattle.script_line.proofs.Spelled.{Parted, number-first, number-after, number-reads, number-no-name}
 
 -- what follows the key, and what follows a cause, starts with a blank or is nothing
@@ -195,3 +196,6 @@ line-told key (Meets e) h = event-told key e h
 
 pub round-trip : claim.RoundTrip
 round-trip key act h = (line-told key act h, read-back key act h)
+
+pub written-as-read : claim.WrittenAsRead
+written-as-read line key act e = let fits : Fits key act = fits-of key act (subst Sound e (parsed-sound line)) in (fits, read-back key act fits)

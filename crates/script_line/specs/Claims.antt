@@ -1,6 +1,7 @@
 -- What is claimed of a line of a script, in terms that do not follow the parser. Proofs: proofs/Claims.antt. Assumes nothing.
 use Prim.Native.Nat.{ℕ}
 use mathlib.Core.Path.{_≡_}
+use mathlib.Core.List.{List}
 use Rattle.source_table.specs.declared.Act.{Act}
 use Rattle.event_record.specs.Record.{decodedOf}
 use Rattle.event_record.specs.Encoded.{recordOf}
@@ -15,3 +16,9 @@ abbrev pub RoundTrip : Type 0
 RoundTrip =
     (key : ℕ) (act : Act) → Fits key act →
     (parsedOf (eventText key act) ≡ Told key act) × (decodedOf (recordOf key act) ≡ record { key = key; request = Asks act })
+
+-- Whatever a line is read as, its numbers have a place in a record, and the record that is written of it decodes to the same key and event.
+abbrev pub WrittenAsRead : Type 0
+WrittenAsRead =
+    (line : List ℕ) (key : ℕ) (act : Act) → parsedOf line ≡ Told key act →
+    Fits key act × (decodedOf (recordOf key act) ≡ record { key = key; request = Asks act })
