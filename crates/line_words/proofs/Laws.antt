@@ -66,9 +66,6 @@ module _ (l : List ℕ) (at from to : ℕ) (f : from ≡ placeOf l (past isBlank
   pub in-order : from ≤ to
   in-order = omega (arith, length-drop from l, ap length start, no-longer isOfWord (drop from l), no-longer isBlank (drop at l), length-drop at l)
 
-  pub in-line : to ≤ length l
-  in-line = omega arith
-
   pub word-is : take (to - from) (drop from l) ≡ firstWord (drop at l)
   unfolding firstWord
   word-is =

@@ -7,7 +7,7 @@ use mathlib.Core.List.{List, [], _∷_}
 use lib.Dec.{ltb, leb}
 use lib.ListN.{length, getD, drop, drop-of-length-le}
 use lib.Seq.{drop-cons}
-use borrow.Author.Tests.{lt-ltb, le-ltb, le-leb, lt-leb, ltb-true, ltb-false, leb-true, leb-false}
+use borrow.Author.Tests.{le-leb, lt-leb, ltb-false, leb-true}
 use Rattle.line_words.specs.declared.Reading.{Reading}
 use Rattle.line_words.specs.declared.Reading.the-variants.{Counts, NoNumber}
 use Rattle.line_words.specs.Numbers.{isDigit, allDigits, isNumber, valueFrom, numberIn}

@@ -3,17 +3,16 @@ use Prim.Native.Nat.{ℕ, _≤_, _<_}
 use native.Mathlib.Omega.{arith}
 use mathlib.Core.Path.{_≡_, refl, sym, _∙_, ap, subst}
 use mathlib.Core.Bool.{Bool, true, false, cond}
-use mathlib.Core.List.{List, [], _∷_, _++_, append-nil}
+use mathlib.Core.List.{List, [], _++_, append-nil}
 use lib.Dec.{eqb}
 use borrow.Author.Tests.{eqb-true}
-use Rattle.lines.specs.Lines.{ascii, numberText}
+use Rattle.lines.specs.Lines.{ascii}
 use Rattle.line_words.specs.Words.{firstWord, afterWord}
 use Rattle.line_words.specs.Numbers.{numberIn}
 use Rattle.signal.specs.declared.Crankback.{Crankback}
 use Rattle.signal.specs.declared.Crankback.the-variants.{NoCrankback, AlternateFound, NoAlternate}
 use Rattle.signal.specs.declared.ReceivedCause.{ReceivedCause}
 use Rattle.signal.specs.declared.ReceivedCause.the-variants.{NoCause, WithCause}
-use Rattle.signal.specs.declared.Services.{Services}
 use Rattle.signal.specs.declared.Soft.{Soft}
 use Rattle.signal.specs.declared.Soft.the-variants.{NoSoft, Asymmetric, Symmetric}
 use Rattle.signal.specs.declared.Wanted.{Wanted}
@@ -33,6 +32,7 @@ use Rattle.script_line.specs.declared.Parsed.{Parsed}
 use Rattle.script_line.specs.declared.Parsed.the-variants.{Told}
 use Rattle.script_line.specs.Script.{nameOf, endOf, softOf, openOf, policyOf, withNumber, connectOf, codeOf, incarnationOf, setupOf, callingCauseOf, callingOf, crankbackOf, calledCauseOf, releaseOf, calledOf, argumentsOf, keyedOf, parsedOf}
 use Rattle.script_line.specs.Claims as claim
+use Rattle.script_line.proofs.Comments.{parsed-same}
 use Rattle.script_line.proofs.Fits.{Sound, fits-of, parsed-sound}
 use Rattle.script_line.proofs.Spelled.{Parted, number-first, number-after, number-reads, number-no-name}
 
@@ -199,3 +199,6 @@ round-trip key act h = (line-told key act h, read-back key act h)
 
 pub written-as-read : claim.WrittenAsRead
 written-as-read line key act e = let fits : Fits key act = fits-of key act (subst Sound e (parsed-sound line)) in (fits, read-back key act fits)
+
+pub comments-are-not-read : claim.CommentsAreNotRead
+comments-are-not-read line comment = parsed-same comment line

@@ -1,11 +1,11 @@
 -- A number that is spelled in decimal is read again as that number, and ends where a blank or the line's end follows. Assumes nothing.
 use Prim.Native.Nat.{ℕ, zero, suc, _+_, _-_, _*_, _/_, _%_, _≤_, _<_}
 use native.Mathlib.Omega.{arith}
-use mathlib.Core.Path.{_≡_, refl, sym, _∙_, ap}
+use mathlib.Core.Path.{_≡_, refl, _∙_, ap}
 use mathlib.Core.Bool.{Bool, true, false, cond, false≢true}
 use mathlib.Core.List.{List, [], _∷_, _++_}
-use lib.Dec.{eqb, ltb, leb}
-use borrow.Author.Tests.{lt-ltb, le-ltb, le-leb, ltb-true, ltb-false, leb-true, eqb-true, ne-eqb}
+use lib.Dec.{ltb, leb}
+use borrow.Author.Tests.{le-ltb, le-leb, ltb-true, ltb-false, leb-true, ne-eqb}
 use Rattle.lines.specs.Lines.{spelled, numberText}
 use Rattle.line_words.specs.Words.{isBlank, isOfWord, front, past, firstWord, afterWord, sameText}
 use Rattle.line_words.specs.Numbers.{isDigit, allDigits, isNumber, valueFrom, numberIn}

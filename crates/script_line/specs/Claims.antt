@@ -1,7 +1,7 @@
 -- What is claimed of a line of a script, in terms that do not follow the parser. Proofs: proofs/Claims.antt. Assumes nothing.
 use Prim.Native.Nat.{ℕ}
 use mathlib.Core.Path.{_≡_}
-use mathlib.Core.List.{List}
+use mathlib.Core.List.{List, _∷_, _++_}
 use Rattle.source_table.specs.declared.Act.{Act}
 use Rattle.event_record.specs.Record.{decodedOf}
 use Rattle.event_record.specs.Encoded.{recordOf}
@@ -22,3 +22,7 @@ abbrev pub WrittenAsRead : Type 0
 WrittenAsRead =
     (line : List ℕ) (key : ℕ) (act : Act) → parsedOf line ≡ Told key act →
     Fits key act × (decodedOf (recordOf key act) ≡ record { key = key; request = Asks act })
+
+-- A comment changes nothing: a line is read as it is without one, so that its comment need not be kept.
+abbrev pub CommentsAreNotRead : Type 0
+CommentsAreNotRead = (line comment : List ℕ) → parsedOf (line ++ (35 ∷ comment)) ≡ parsedOf line

@@ -1,5 +1,4 @@
 -- `blank` meets its contract. Assumes nothing.
-use borrow.Author.Needs.{needs}
 use borrow.Author.Tests.{eq-eqb, ne-eqb}
 use Rattle.line_words.proofs.blank.Statement.{statement}
 use Rattle.line_words.proofs.blank.Tie as tie

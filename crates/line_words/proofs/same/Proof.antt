@@ -1,8 +1,7 @@
 -- `same` meets its contract: what is left of the two texts says what the whole does. Assumes nothing.
-use Prim.Native.Nat.{_-_, _≤_}
+use Prim.Native.Nat.{_-_}
 use mathlib.Core.Path.{_≡_, refl, sym}
 use borrow.Author.Needs.{needs}
-use native.Mathlib.Omega.{arith}
 use lib.ListN.{length, drop}
 use Rattle.line_words.specs.Words.{sameText}
 use Rattle.line_words.proofs.Laws.{other-length, agrees, differs, agreed}

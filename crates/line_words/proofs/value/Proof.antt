@@ -1,11 +1,11 @@
 -- `value` meets its contract: what is left of the word, behind the number so far, says what the whole does. Assumes nothing.
-use Prim.Native.Nat.{_+_, _*_, _-_, _≤_}
-use mathlib.Core.Path.{_≡_, refl, sym, _∙_, ap, subst}
+use Prim.Native.Nat.{_-_, _≤_}
+use mathlib.Core.Path.{_≡_, sym, _∙_}
 use borrow.Author.Needs.{needs}
 use native.Mathlib.Omega.{arith}
 use borrow.Author.Tests.{not-true, not-false}
 use lib.ListN.{length, drop, getD}
-use Rattle.line_words.specs.Numbers.{isDigit, numberIn}
+use Rattle.line_words.specs.Numbers.{numberIn}
 use Rattle.line_words.proofs.Numbers.{numberFrom, none, begun, no-digit, one-digit, above, counted, digit-low}
 use Rattle.line_words.proofs.value.Statement.{statement}
 use Rattle.line_words.proofs.value.Tie as tie

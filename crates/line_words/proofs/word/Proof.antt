@@ -1,6 +1,6 @@
 -- `word` meets its contract: the part is what stands between the two places. Assumes nothing.
 use borrow.Author.Needs.{needs}
-use Rattle.line_words.proofs.Laws.{in-order, in-line, word-is}
+use Rattle.line_words.proofs.Laws.{in-order, word-is}
 use Rattle.line_words.proofs.word.Statement.{statement}
 use Rattle.line_words.proofs.word.Tie as tie
 
