@@ -12,7 +12,7 @@ use Rattle.script_line.specs.declared.Name.{Name}
 use Rattle.script_line.specs.declared.Name.the-variants.{OpenName, TriggerName, PathName, NoPathName, ConnectName, SetupName, CallingName, CalledName, ReadyName, ExpiryName}
 use Rattle.script_line.specs.declared.Naming.{Naming}
 use Rattle.script_line.specs.declared.Naming.the-variants.{NoName, Names}
-use Rattle.script_line.specs.Script.{nameOf, endOf, softOf, openOf, policyOf, connectOf, incarnationOf, setupOf, callingCauseOf, callingOf, crankbackOf, calledCauseOf, releaseOf, calledOf, argumentsOf, keyedOf, namedOf, parsedOf}
+use Rattle.script_line.specs.Script.{endOf, softOf, openOf, policyOf, connectOf, incarnationOf, setupOf, callingCauseOf, callingOf, crankbackOf, calledCauseOf, releaseOf, calledOf, argumentsOf, keyedOf, namedOf, parsedOf}
 
 module _ (comment : List ℕ) where
   first : (rest : List ℕ) → firstWord (rest ++ (35 ∷ comment)) ≡ firstWord rest
