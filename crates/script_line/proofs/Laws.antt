@@ -11,9 +11,9 @@ use Rattle.script_line.specs.Script.{isWord, codeOf}
 
 pub code-at-most : (word : List ℕ) (n : ℕ) → codeOf word ≡ Counts n → n ≤ 255
 unfolding codeOf
-code-at-most word n e = by-tests (isWord word "clearing") (isWord word "immediate") e
+code-at-most word n e = by-tests (isWord word "clearing") (isWord word "immediate") _ _ e (omega arith) (omega arith)
   where
-    by-tests : (clearing immediate : Bool) → cond clearing (Counts 1) (cond immediate (Counts 0) (numberIn 255 word)) ≡ Counts n → n ≤ 255
-    by-tests true immediate e = let m : 1 ≡ n = cc in omega arith
-    by-tests false true e = let m : 0 ≡ n = cc in omega arith
-    by-tests false false e = at-most 255 word n e
+    by-tests : (clearing immediate : Bool) (a b : ℕ) → cond clearing (Counts a) (cond immediate (Counts b) (numberIn 255 word)) ≡ Counts n → a ≤ 255 → b ≤ 255 → n ≤ 255
+    by-tests true immediate a b e h k = let m : a ≡ n = cc in omega arith
+    by-tests false true a b e h k = let m : b ≡ n = cc in omega arith
+    by-tests false false a b e h k = at-most 255 word n e
