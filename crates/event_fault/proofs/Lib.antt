@@ -1,0 +1,4 @@
+pub mod ByKind
+pub mod Exactly
+pub mod First
+pub mod Claims

@@ -46,6 +46,10 @@ highest kind first byte =
 abbrev pub Named : List ℕ → ℕ → Type 0
 Named os i = octet os i ≤ highest (octet os 0) (octet os 1) i
 
+-- Where no fault is found, every byte is named.
+abbrev pub AllAreNamed : Type 0
+AllAreNamed = (os : List ℕ) → Octets os → faultOf os ≡ NoFault → (i : ℕ) → Named os i
+
 -- The byte that a fault tells has the value told, which is not named, and every byte before it is named.
 abbrev pub TheFirst : Type 0
 TheFirst =

@@ -23,7 +23,3 @@ byteText byte = ascii "byte " ++ numberText byte
 abbrev pub faultText : Fault → List ℕ
 faultText NoFault = []
 faultText (Misses byte value expected) = byteText byte ++ (ascii " is " ++ (numberText value ++ (ascii ", expected " ++ expectedText expected)))
-
--- a record of which only so many bytes came
-abbrev pub cutText : ℕ → List ℕ
-cutText came = byteText came ++ ascii " is missing, expected 16 bytes"

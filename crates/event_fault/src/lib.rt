@@ -3,7 +3,7 @@
 ghost use mathlib.Core.Path.{_≡_};
 ghost use Rattle.lines.specs.Lines.{page, putText};
 ghost use Rattle.event_fault.specs.Fault.{openFault, connectionFault, connectFault, callingFault, calledFault, kindFault, faultOf};
-ghost use Rattle.event_fault.specs.Words.{expectedText, byteText, faultText, cutText};
+ghost use Rattle.event_fault.specs.Words.{expectedText, byteText, faultText};
 
 // What an octet is to say.
 pub enum Expected {
@@ -160,12 +160,4 @@ pub fn put_fault(out: &mut [u8], at: usize, fault: Fault) -> usize
             put_expected(out, then, expected)
         }
     }
-}
-
-// A record of which only so many octets came.
-pub fn put_cut(out: &mut [u8], at: usize, came: u64) -> usize
-    ensures { λ r. ⌜ page (now (out .exit)) r ≡ putText (page (now (out .entry)) at) (cutText came) ⌝ }
-{
-    let told = put_octet(out, at, came);
-    lines::put_word(out, told, b" is missing, expected 16 bytes")
 }

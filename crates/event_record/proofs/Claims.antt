@@ -3,8 +3,10 @@ use Prim.Native.Nat.{ℕ, _+_, _*_, _/_, _%_, _<_}
 use native.Mathlib.Nat.{div-div-eq-div-mul}
 use native.Mathlib.Omega.{arith}
 use mathlib.Core.Path.{_≡_, refl, sym, _∙_, ap}
-use mathlib.Core.Bool.{Bool, true, false}
-use borrow.Author.Tests.{le-ltb}
+use mathlib.Core.Bool.{Bool, true, false, cond}
+use mathlib.Core.Logic.{inl, inr}
+use lib.Dec.{ltb}
+use borrow.Author.Tests.{lt-ltb, le-ltb}
 use Rattle.signal.specs.Numbers.{softNumber, crankbackNumber}
 use Rattle.signal.specs.declared.Crankback.{Crankback}
 use Rattle.signal.specs.declared.Crankback.the-variants.{NoCrankback, AlternateFound, NoAlternate}
@@ -18,11 +20,26 @@ use Rattle.source_states.specs.declared.Event.{Event}
 use Rattle.source_states.specs.declared.Event.the-variants.{Trigger, PathFound, NoPath, Connect, Setup, FromCalling, FromCalled, Ready, Expiry}
 use Rattle.source_table.specs.declared.Act.{Act}
 use Rattle.source_table.specs.declared.Act.the-variants.{Opens, Meets}
-use Rattle.event_record.specs.Record.{numberOf, askedOf, openOf, connectOf, callingOf, calledOf}
+use Rattle.event_record.specs.Record.{octet, numberOf, askedOf, openOf, connectOf, callingOf, calledOf}
 use Rattle.event_record.specs.Encoded.{flagNumber, presentNumber, causeNumber, openValues, eventValues, actValues}
 use Rattle.event_record.specs.Claims.{EventFits, ActFits}
 use Rattle.event_record.specs.Claims as claim
-use Rattle.event_record.specs.declared.Request.the-variants.{Asks}
+use Rattle.event_record.specs.declared.Request.the-variants.{Bad, Asks}
+
+-- a connection number above 65,535 is bad, whatever stands in the other octets
+bad-either-way : (t : Bool) → cond t Bad Bad ≡ Bad
+bad-either-way true = refl
+bad-either-way false = refl
+
+connect-above : (policy n : ℕ) → 65535 < n → connectOf policy n ≡ Bad
+connect-above policy n h = rw (lt-ltb 65535 n h) (bad-either-way (ltb 1 policy))
+
+called-above : (present number back n : ℕ) → 65535 < n → calledOf present number back n ≡ Bad
+called-above present number back n h = rw (lt-ltb 65535 n h, bad-either-way (ltb 2 back)) (bad-either-way (ltb 1 present))
+
+pub above-is-bad : claim.AboveIsBad
+above-is-bad os (inl kind) h = rw kind (connect-above (octet os 1) _ h)
+above-is-bad os (inr kind) h = rw kind (called-above (octet os 1) (octet os 2) (octet os 3) _ h)
 
 -- a number of four octets is read back: each octet is what the number without it leaves
 by-octets : (n c d e : ℕ) → c ≡ n / 256 → d ≡ c / 256 → e ≡ d / 256 → e < 256 → numberOf (e % 256) (d % 256) (c % 256) (n % 256) ≡ n

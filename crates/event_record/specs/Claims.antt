@@ -1,5 +1,7 @@
--- What is claimed of a record that is written. Proofs: proofs/Claims.antt. Assumes nothing.
+-- What is claimed of a record, read and written. Proofs: proofs/Claims.antt. Assumes nothing.
 use Prim.Native.Nat.{ℕ, _<_}
+use mathlib.Core.List.{List}
+use mathlib.Core.Logic.{_⊎_}
 use mathlib.Core.Path.{_≡_}
 use Rattle.signal.specs.declared.ReceivedCause.{ReceivedCause}
 use Rattle.signal.specs.declared.ReceivedCause.the-variants.{NoCause, WithCause}
@@ -7,9 +9,14 @@ use Rattle.source_states.specs.declared.Event.{Event}
 use Rattle.source_states.specs.declared.Event.the-variants.{Trigger, PathFound, NoPath, Connect, Setup, FromCalling, FromCalled, Ready, Expiry}
 use Rattle.source_table.specs.declared.Act.{Act}
 use Rattle.source_table.specs.declared.Act.the-variants.{Opens, Meets}
-use Rattle.event_record.specs.Record.{decodedOf}
+use Rattle.event_record.specs.Record.{octet, numberOf, decodedOf}
 use Rattle.event_record.specs.Encoded.{recordOf}
-use Rattle.event_record.specs.declared.Request.the-variants.{Asks}
+use Rattle.event_record.specs.declared.Request.the-variants.{Bad, Asks}
+
+-- 01, "The trace": a connect or a called release with a connection number above 65,535 is bad.
+abbrev pub AboveIsBad : Type 0
+AboveIsBad =
+    (os : List ℕ) → (octet os 0 ≡ 4) ⊎ (octet os 0 ≡ 7) → 65535 < numberOf (octet os 8) (octet os 9) (octet os 10) (octet os 11) → decodedOf os .request ≡ Bad
 
 -- the numbers of an event have a place in a record: a connection in two octets, a key and an incarnation number in four, a code and a cause in one
 abbrev pub CauseFits : ReceivedCause → Type 0

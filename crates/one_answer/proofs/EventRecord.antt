@@ -3,6 +3,10 @@ use mathlib.Core.Path.{refl}
 use Rattle.one_answer.specs.One.{OneAnswer}
 use Rattle.one_answer.proofs.Law.{facts, result}
 use Rattle.event_record.proofs.decode as decode
+use Rattle.event_record.proofs.encode as encode
 
 pub decode-has-one-answer : {M : Type 1} → OneAnswer M decode.ended decode.clauses decode.spec
 decode-has-one-answer 𝓤 _ _ _ _ = (refl, λ _ _ _ _ _ _ _ _. facts 𝓤 result)
+
+pub encode-has-one-answer : {M : Type 1} → OneAnswer M encode.ended encode.clauses encode.spec
+encode-has-one-answer 𝓤 _ _ _ _ = (refl, λ _ _ _ _ _ _ _ _. facts 𝓤 result)

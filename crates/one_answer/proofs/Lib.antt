@@ -13,6 +13,8 @@ pub mod Source
 pub mod SourceWords
 pub mod SourceTable
 pub mod EventRecord
+pub mod EventFault
+pub mod EventWords
 pub mod CauseElement
 pub mod LineWords
 pub mod ScriptWords

@@ -1,0 +1,141 @@
+// Reads event records from standard input, and prints each as its line of `script` with its count (docs/BENCH.md, "list").
+//
+// `octets` takes a record out of what was read, `event_record::decode` says what it is, and `print` puts its line, or what is wrong with it, into a buffer. The rest
+// is reading and writing: all that has come is printed before more is waited for.
+mod octets;
+mod print;
+
+ghost use Prim.Native.Nat.{_≤_};
+ghost use lib.ListN.{length};
+use event_record::Request;
+use libc::STDERR_FILENO;
+use libc::STDIN_FILENO;
+use libc::STDOUT_FILENO;
+
+// How far a run is: whether it goes on, the records that are listed, and the octets at the start of the buffer that are no whole record yet.
+struct Progress {
+    more: bool,
+    listed: u64,
+    kept: usize,
+}
+
+// A loop has to end, and nothing says that the input does: so the turns are counted down, from a number that no run uses up.
+fn main() {
+    let mut input = io::large_buffer();
+    let mut output = io::large_buffer();
+    let mut progress = Progress {
+        more: true,
+        listed: 0,
+        kept: 0,
+    };
+    let mut turns = u64::MAX;
+    while turns > 0 && progress.more {
+        progress = turn(&mut input, &mut output, progress);
+        turns -= 1;
+    }
+}
+
+// One read, and the lines of the records that are whole with it.
+fn turn(input: &mut [u8], output: &mut [u8], progress: Progress) -> Progress {
+    let kept = progress.kept;
+    if input.len() <= kept {
+        return ended();
+    }
+    let got = libc::read(STDIN_FILENO, &mut input[kept..]);
+    if got < 0 {
+        return fails(b"list: reading fails\n");
+    }
+    let came = io::count(got, &input[kept..]);
+    if came == 0 {
+        return finish(output, progress.listed, kept);
+    }
+    let have = kept + came;
+    let after = list_whole(input, have, output, progress.listed);
+    octets::keep(input, have / 16 * 16, have % 16);
+    after
+}
+
+// The records that are whole among the first octets of the input.
+fn list_whole(input: &[u8], have: usize, output: &mut [u8], listed: u64) -> Progress
+    requires { ⌜ have ≤ length (now input) ⌝ }
+{
+    let mut count = listed;
+    let mut at: usize = 0;
+    let mut place: usize = 0;
+    while 16 <= have - place {
+        let record = octets::record(input, place);
+        let decoded = event_record::decode(record);
+        let request = decoded.request;
+        count = next(count);
+        match request {
+            Request::Bad => return refuse(output, at, count, record),
+            Request::Asks(act) => {
+                at = print::put_line(output, at, count, decoded.key, act);
+            }
+        }
+        if 65000 < at {
+            if !write_first(STDOUT_FILENO, output, at) {
+                return fails(b"list: writing fails\n");
+            }
+            at = 0;
+        }
+        place += 16;
+    }
+    if !write_first(STDOUT_FILENO, output, at) {
+        return fails(b"list: writing fails\n");
+    }
+    Progress {
+        more: true,
+        listed: count,
+        kept: have - place,
+    }
+}
+
+// No run counts so far that the last number is met twice.
+fn next(count: u64) -> u64 {
+    if count < u64::MAX {
+        return count + 1;
+    }
+    count
+}
+
+// The lines before a bad record, and then what is wrong with it.
+fn refuse(output: &mut [u8], at: usize, count: u64, record: [u8; 16]) -> Progress {
+    if !write_first(STDOUT_FILENO, output, at) {
+        return fails(b"list: writing fails\n");
+    }
+    let length = print::put_bad(output, 0, count, event_fault::find(record));
+    write_first(STDERR_FILENO, output, length);
+    ended()
+}
+
+// The end of the input, which may cut a record short.
+fn finish(output: &mut [u8], listed: u64, kept: usize) -> Progress {
+    if kept == 0 {
+        return ended();
+    }
+    let length = print::put_short(output, 0, next(listed), kept as u64);
+    write_first(STDERR_FILENO, output, length);
+    ended()
+}
+
+fn fails(line: &[u8]) -> Progress {
+    io::write_all(STDERR_FILENO, line);
+    ended()
+}
+
+fn ended() -> Progress {
+    Progress {
+        more: false,
+        listed: 0,
+        kept: 0,
+    }
+}
+
+// The first octets of a buffer; one that is full may have been cut, which counts as a failure.
+fn write_first(file: i32, buffer: &[u8], length: usize) -> bool {
+    if length < buffer.len() {
+        return io::write_all(file, &buffer[0..length]);
+    }
+    false
+}
