@@ -16,3 +16,6 @@ pub mod EventRecord
 pub mod EventFault
 pub mod EventWords
 pub mod CauseElement
+pub mod LineWords
+pub mod ScriptWords
+pub mod ScriptLine

@@ -1,0 +1,11 @@
+-- What is claimed of the words of a line (docs/BENCH.md, "script"). Proofs: proofs/Claims.antt. Assumes nothing.
+use Prim.Native.Nat.{ℕ}
+use mathlib.Core.Path.{_≡_}
+use mathlib.Core.List.{List, _∷_, _++_}
+use Rattle.line_words.specs.Words.{firstWord, afterWord}
+
+-- A comment, from its `#` on, changes no word in front of it, also right behind one; and no word is sought in it.
+abbrev pub CommentIsNoWord : Type 0
+CommentIsNoWord =
+    (rest comment : List ℕ) →
+    (firstWord (rest ++ (35 ∷ comment)) ≡ firstWord rest) × (afterWord (rest ++ (35 ∷ comment)) ≡ afterWord rest ++ (35 ∷ comment))

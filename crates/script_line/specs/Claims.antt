@@ -1,0 +1,28 @@
+-- What is claimed of a line of a script, in terms that do not follow the parser. Proofs: proofs/Claims.antt. Assumes nothing.
+use Prim.Native.Nat.{ℕ}
+use mathlib.Core.Path.{_≡_}
+use mathlib.Core.List.{List, _∷_, _++_}
+use Rattle.source_table.specs.declared.Act.{Act}
+use Rattle.event_record.specs.Record.{decodedOf}
+use Rattle.event_record.specs.Encoded.{recordOf}
+use Rattle.event_record.specs.Claims.{Fits}
+use Rattle.event_record.specs.declared.Request.the-variants.{Asks}
+use Rattle.event_words.specs.Words.{eventText}
+use Rattle.script_line.specs.declared.Parsed.the-variants.{Told}
+use Rattle.script_line.specs.Script.{parsedOf}
+
+-- The line that tells an event is read as that event (docs/BENCH.md, "list"), and the record that is written of it decodes to it again.
+abbrev pub RoundTrip : Type 0
+RoundTrip =
+    (key : ℕ) (act : Act) → Fits key act →
+    (parsedOf (eventText key act) ≡ Told key act) × (decodedOf (recordOf key act) ≡ record { key = key; request = Asks act })
+
+-- Whatever a line is read as, its numbers have a place in a record, and the record that is written of it decodes to the same key and event.
+abbrev pub WrittenAsRead : Type 0
+WrittenAsRead =
+    (line : List ℕ) (key : ℕ) (act : Act) → parsedOf line ≡ Told key act →
+    Fits key act × (decodedOf (recordOf key act) ≡ record { key = key; request = Asks act })
+
+-- A comment changes nothing: a line is read as it is without one, so that its comment need not be kept.
+abbrev pub CommentsAreNotRead : Type 0
+CommentsAreNotRead = (line comment : List ℕ) → parsedOf (line ++ (35 ∷ comment)) ≡ parsedOf line

@@ -1,0 +1,357 @@
+// A line of a script read into a key and what is done with it, or into what was expected at the first word that does not fit (docs/BENCH.md, "script").
+//
+// The name of the event is judged first, then the key, then the rest from left to right.
+ghost use mathlib.Core.Path.{_≡_};
+ghost use lib.ListN.{drop};
+ghost use Rattle.line_words.specs.Words.{firstWord};
+ghost use Rattle.script_line.specs.Script.{nameOf, endOf, servicesOf, softOf, openOf, policyOf, connectOf, codeOf, incarnationOf, setupOf, callingCauseOf, callingOf, crankbackOf, calledCauseOf, releaseOf, calledOf, argumentsOf, keyedOf, parsedOf};
+use line_words::Reading;
+use line_words::after;
+use line_words::is;
+use line_words::number;
+use script_words::What;
+use signal::Crankback;
+use signal::ReceivedCause;
+use signal::ReroutingCause;
+use signal::Services;
+use signal::Soft;
+use signal::Switchover;
+use signal::Wanted;
+use source::Event;
+use source_table::Act;
+
+pub enum Parsed {
+    // no words
+    Wordless,
+    // a key, and what is done with it
+    Told(u32, Act),
+    Expected(What),
+}
+
+// The event that a word names.
+pub enum Name {
+    OpenName,
+    TriggerName,
+    PathName,
+    NoPathName,
+    ConnectName,
+    SetupName,
+    CallingName,
+    CalledName,
+    ReadyName,
+    ExpiryName,
+}
+
+pub enum Naming {
+    NoName,
+    Names(Name),
+}
+
+// Nothing may follow.
+fn end(line: &[u8], at: usize, key: u32, act: Act) -> Parsed
+    ensures { λ r. ⌜ r ≡ endOf key act (drop at (now (line .entry))) ⌝ }
+{
+    if is(line, at, b"") {
+        return Parsed::Told(key, act);
+    }
+    Parsed::Expected(What::NothingMore)
+}
+
+fn services(line: &[u8], at: usize, key: u32, hard: bool, soft: Soft) -> Parsed
+    ensures { λ r. ⌜ r ≡ servicesOf key hard soft (drop at (now (line .entry))) ⌝ }
+{
+    let services = Services { hard, soft };
+    end(line, at, key, Act::Opens(Wanted::Named(services)))
+}
+
+fn soft(line: &[u8], at: usize, key: u32, hard: bool) -> Parsed
+    ensures { λ r. ⌜ r ≡ softOf key hard (drop at (now (line .entry))) ⌝ }
+{
+    if is(line, at, b"none") {
+        return services(line, after(line, at), key, hard, Soft::NoSoft);
+    }
+    if is(line, at, b"asymmetric") {
+        return services(line, after(line, at), key, hard, Soft::Asymmetric);
+    }
+    if is(line, at, b"symmetric") {
+        return services(line, after(line, at), key, hard, Soft::Symmetric);
+    }
+    Parsed::Expected(What::ASoftService)
+}
+
+fn open(line: &[u8], at: usize, key: u32) -> Parsed
+    ensures { λ r. ⌜ r ≡ openOf key (drop at (now (line .entry))) ⌝ }
+{
+    if is(line, at, b"") {
+        return Parsed::Told(key, Act::Opens(Wanted::Unnamed));
+    }
+    if is(line, at, b"hard") {
+        return soft(line, after(line, at), key, true);
+    }
+    if is(line, at, b"nohard") {
+        return soft(line, after(line, at), key, false);
+    }
+    Parsed::Expected(What::HardOrEnd)
+}
+
+fn policy(line: &[u8], at: usize, key: u32, connection: u16) -> Parsed
+    ensures { λ r. ⌜ r ≡ policyOf key connection (drop at (now (line .entry))) ⌝ }
+{
+    if is(line, at, b"yes") {
+        return end(
+            line,
+            after(line, at),
+            key,
+            Act::Meets(Event::Connect(connection, true)),
+        );
+    }
+    if is(line, at, b"no") {
+        return end(
+            line,
+            after(line, at),
+            key,
+            Act::Meets(Event::Connect(connection, false)),
+        );
+    }
+    Parsed::Expected(What::YesOrNo)
+}
+
+fn connect(line: &[u8], at: usize, key: u32) -> Parsed
+    ensures { λ r. ⌜ r ≡ connectOf key (drop at (now (line .entry))) ⌝ }
+{
+    let connection = number(line, at, 65535);
+    match connection {
+        Reading::NoNumber => Parsed::Expected(What::AConnection),
+        Reading::Counts(found) => policy(line, after(line, at), key, found as u16),
+    }
+}
+
+// A switchover by its name or its number.
+fn code(line: &[u8], at: usize) -> Reading
+    ensures { λ r. ⌜ r ≡ codeOf (firstWord (drop at (now (line .entry)))) ⌝ }
+{
+    if is(line, at, b"clearing") {
+        return Reading::Counts(1);
+    }
+    if is(line, at, b"immediate") {
+        return Reading::Counts(0);
+    }
+    number(line, at, 255)
+}
+
+fn incarnation(line: &[u8], at: usize, key: u32, code: u8) -> Parsed
+    ensures { λ r. ⌜ r ≡ incarnationOf key code (drop at (now (line .entry))) ⌝ }
+{
+    let incarnation = number(line, at, 4294967295);
+    match incarnation {
+        Reading::NoNumber => Parsed::Expected(What::AnIncarnation),
+        Reading::Counts(found) => end(
+            line,
+            after(line, at),
+            key,
+            Act::Meets(Event::Setup(Switchover { code }, found)),
+        ),
+    }
+}
+
+fn setup(line: &[u8], at: usize, key: u32) -> Parsed
+    ensures { λ r. ⌜ r ≡ setupOf key (drop at (now (line .entry))) ⌝ }
+{
+    let switchover = code(line, at);
+    match switchover {
+        Reading::NoNumber => Parsed::Expected(What::ASwitchover),
+        Reading::Counts(found) => incarnation(line, after(line, at), key, found as u8),
+    }
+}
+
+fn calling_cause(line: &[u8], at: usize, key: u32) -> Parsed
+    ensures { λ r. ⌜ r ≡ callingCauseOf key (drop at (now (line .entry))) ⌝ }
+{
+    let cause = number(line, at, 255);
+    match cause {
+        Reading::NoNumber => Parsed::Expected(What::ACause),
+        Reading::Counts(found) => {
+            let received = ReceivedCause::WithCause(ReroutingCause {
+                number: found as u8,
+            });
+            end(
+                line,
+                after(line, at),
+                key,
+                Act::Meets(Event::FromCalling(received)),
+            )
+        }
+    }
+}
+
+fn calling(line: &[u8], at: usize, key: u32) -> Parsed
+    ensures { λ r. ⌜ r ≡ callingOf key (drop at (now (line .entry))) ⌝ }
+{
+    if is(line, at, b"") {
+        return Parsed::Told(key, Act::Meets(Event::FromCalling(ReceivedCause::NoCause)));
+    }
+    if is(line, at, b"cause") {
+        return calling_cause(line, after(line, at), key);
+    }
+    Parsed::Expected(What::CauseOrEnd)
+}
+
+// The crankback of a release, or nothing; `what` is told of any other word.
+fn crankback(
+    line: &[u8],
+    at: usize,
+    key: u32,
+    connection: u16,
+    cause: ReceivedCause,
+    what: What,
+) -> Parsed
+    ensures { λ r. ⌜ r ≡ crankbackOf key connection cause what (drop at (now (line .entry))) ⌝ }
+{
+    if is(line, at, b"") {
+        return Parsed::Told(
+            key,
+            Act::Meets(Event::FromCalled(connection, cause, Crankback::NoCrankback)),
+        );
+    }
+    if is(line, at, b"alternate") {
+        return end(
+            line,
+            after(line, at),
+            key,
+            Act::Meets(Event::FromCalled(connection, cause, Crankback::AlternateFound)),
+        );
+    }
+    if is(line, at, b"noalternate") {
+        return end(
+            line,
+            after(line, at),
+            key,
+            Act::Meets(Event::FromCalled(connection, cause, Crankback::NoAlternate)),
+        );
+    }
+    Parsed::Expected(what)
+}
+
+fn called_cause(line: &[u8], at: usize, key: u32, connection: u16) -> Parsed
+    ensures { λ r. ⌜ r ≡ calledCauseOf key connection (drop at (now (line .entry))) ⌝ }
+{
+    let cause = number(line, at, 255);
+    match cause {
+        Reading::NoNumber => Parsed::Expected(What::ACause),
+        Reading::Counts(found) => {
+            let received = ReceivedCause::WithCause(ReroutingCause {
+                number: found as u8,
+            });
+            crankback(
+                line,
+                after(line, at),
+                key,
+                connection,
+                received,
+                What::CrankbackOrEnd,
+            )
+        }
+    }
+}
+
+fn release(line: &[u8], at: usize, key: u32, connection: u16) -> Parsed
+    ensures { λ r. ⌜ r ≡ releaseOf key connection (drop at (now (line .entry))) ⌝ }
+{
+    if is(line, at, b"cause") {
+        return called_cause(line, after(line, at), key, connection);
+    }
+    crankback(
+        line,
+        at,
+        key,
+        connection,
+        ReceivedCause::NoCause,
+        What::CauseCrankbackOrEnd,
+    )
+}
+
+fn called(line: &[u8], at: usize, key: u32) -> Parsed
+    ensures { λ r. ⌜ r ≡ calledOf key (drop at (now (line .entry))) ⌝ }
+{
+    let connection = number(line, at, 65535);
+    match connection {
+        Reading::NoNumber => Parsed::Expected(What::AConnection),
+        Reading::Counts(found) => release(line, after(line, at), key, found as u16),
+    }
+}
+
+fn arguments(line: &[u8], at: usize, name: Name, key: u32) -> Parsed
+    ensures { λ r. ⌜ r ≡ argumentsOf name key (drop at (now (line .entry))) ⌝ }
+{
+    match name {
+        Name::OpenName => open(line, at, key),
+        Name::TriggerName => end(line, at, key, Act::Meets(Event::Trigger)),
+        Name::PathName => end(line, at, key, Act::Meets(Event::PathFound)),
+        Name::NoPathName => end(line, at, key, Act::Meets(Event::NoPath)),
+        Name::ConnectName => connect(line, at, key),
+        Name::SetupName => setup(line, at, key),
+        Name::CallingName => calling(line, at, key),
+        Name::CalledName => called(line, at, key),
+        Name::ReadyName => end(line, at, key, Act::Meets(Event::Ready)),
+        Name::ExpiryName => end(line, at, key, Act::Meets(Event::Expiry)),
+    }
+}
+
+fn keyed(line: &[u8], at: usize, name: Name) -> Parsed
+    ensures { λ r. ⌜ r ≡ keyedOf name (drop at (now (line .entry))) ⌝ }
+{
+    let key = number(line, at, 4294967295);
+    match key {
+        Reading::NoNumber => Parsed::Expected(What::AKey),
+        Reading::Counts(found) => arguments(line, after(line, at), name, found),
+    }
+}
+
+fn named(line: &[u8]) -> Naming
+    ensures { λ r. ⌜ r ≡ nameOf (firstWord (now (line .entry))) ⌝ }
+{
+    if is(line, 0, b"open") {
+        return Naming::Names(Name::OpenName);
+    }
+    if is(line, 0, b"trigger") {
+        return Naming::Names(Name::TriggerName);
+    }
+    if is(line, 0, b"path") {
+        return Naming::Names(Name::PathName);
+    }
+    if is(line, 0, b"nopath") {
+        return Naming::Names(Name::NoPathName);
+    }
+    if is(line, 0, b"connect") {
+        return Naming::Names(Name::ConnectName);
+    }
+    if is(line, 0, b"setup") {
+        return Naming::Names(Name::SetupName);
+    }
+    if is(line, 0, b"calling") {
+        return Naming::Names(Name::CallingName);
+    }
+    if is(line, 0, b"called") {
+        return Naming::Names(Name::CalledName);
+    }
+    if is(line, 0, b"ready") {
+        return Naming::Names(Name::ReadyName);
+    }
+    if is(line, 0, b"expiry") {
+        return Naming::Names(Name::ExpiryName);
+    }
+    Naming::NoName
+}
+
+pub fn parse(line: &[u8]) -> Parsed
+    ensures { λ r. ⌜ r ≡ parsedOf (now (line .entry)) ⌝ }
+{
+    if is(line, 0, b"") {
+        return Parsed::Wordless;
+    }
+    let event = named(line);
+    match event {
+        Naming::NoName => Parsed::Expected(What::AnEvent),
+        Naming::Names(name) => keyed(line, after(line, 0), name),
+    }
+}
