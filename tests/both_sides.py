@@ -1,11 +1,9 @@
 """What the tests of the bench share: the programs of both sides, the count of what passed, and how a difference is told."""
 import concurrent.futures
-import itertools
 import os
 import pathlib
 import subprocess
 import sys
-import tempfile
 
 ROOT = pathlib.Path(__file__).resolve().parents[1]
 ORACLE = ROOT / "target/oracle/release/oracle"
@@ -67,31 +65,34 @@ def lines_of(octets):
     return octets.decode("utf-8", "replace").splitlines()
 
 
-def first_difference(ours, theirs):
-    """The number, from 0, of the first line in which two texts differ, and that line of each; nothing where they are the same."""
-    for number, (our, their) in enumerate(itertools.zip_longest(ours, theirs, fillvalue=None)):
-        if our != their:
-            return number, *("(no more lines)" if line is None else line for line in (our, their))
-    return None
+def shared(ours, theirs):
+    """How many octets two outputs have alike at their front."""
+    low, high = 0, min(len(ours), len(theirs))
+    while low < high:
+        middle = (low + high + 1) // 2
+        low, high = (middle, high) if ours[low:middle] == theirs[low:middle] else (low, middle - 1)
+    return low
 
 
-def told(name, pair, found, records=None):
-    """A difference in words: the line as each has it, and the records up to it."""
-    number, *lines = found
-    text = [f"{name}: line {number + 1} differs"] + [f"  {side}: {line}" for side, line in zip(pair, lines)]
-    if records is not None:
-        # line 1 is the first line of columns, so that the record of line n + 1 is the n-th
-        before = output(oracle("list"), records[: number * RECORD])[0]
-        text += ["  the records up to it:"] + [f"    {line}" for line in lines_of(before)[-SHOWN:]]
-    return "\n".join(text)
+def line_at(text, start):
+    end = text.find(b"\n", start)
+    line = text[start:] if end < 0 else text[start : end + 1]
+    # an end that is missing is a difference too
+    return repr(line.decode("utf-8", "replace")) if line else "(no more lines)"
 
 
 def same(name, pair, ours, theirs, records=None):
-    """Faults of two outputs that must be the same bytes. `pair` names the two sides."""
+    """Faults of two outputs that must be the same bytes: the first line that differs, as each of the pair has it, and the records up to it."""
     if ours == theirs:
         return []
-    found = first_difference(lines_of(ours), lines_of(theirs))
-    return [told(name, pair, found, records) if found else f"{name}: the same lines, with another end"]
+    at = shared(ours, theirs)
+    start = ours.rfind(b"\n", 0, at) + 1
+    number = ours.count(b"\n", 0, at)  # line 1 is the one of columns, and record n prints line n + 1
+    text = [f"{name}: line {number + 1} differs"] + [f"  {side}: {line_at(whole, start)}" for side, whole in zip(pair, (ours, theirs))]
+    if records is not None:
+        before = output(oracle("list"), records[: number * RECORD])[0]
+        text += ["  the records up to it:"] + [f"    {line}" for line in lines_of(before)[-SHOWN:]]
+    return ["\n".join(text)]
 
 
 def both(name, program, records):
@@ -104,7 +105,3 @@ def both(name, program, records):
 def in_parallel(function, items):
     with concurrent.futures.ThreadPoolExecutor(WORKERS) as pool:
         return list(pool.map(function, items))
-
-
-def folder():
-    return tempfile.TemporaryDirectory(prefix="bench-")
