@@ -56,9 +56,9 @@ def made(*words):
 
 
 def output(command, octets):
-    """What a program prints of these octets, and what it complains of."""
+    """What a program prints of these octets, and what it complains of: an exit status that is not 0 too."""
     done = subprocess.run(command, input=octets, stdout=subprocess.PIPE, stderr=subprocess.PIPE, timeout=3600)
-    return done.stdout, done.stderr
+    return done.stdout, done.stderr or (b"exit status %d" % done.returncode if done.returncode else b"")
 
 
 def lines_of(octets):
