@@ -1,0 +1,107 @@
+"""What the tests of the bench share: the programs of both sides, the count of what passed, and how a difference is told."""
+import concurrent.futures
+import os
+import pathlib
+import subprocess
+import sys
+
+ROOT = pathlib.Path(__file__).resolve().parents[1]
+ORACLE = ROOT / "target/oracle/release/oracle"
+RECORD = 16
+WORKERS = 2
+SHOWN = 10  # records that are shown up to a difference
+LONG = bool(os.environ.get("LONG_TESTS"))
+
+passed = failed = 0
+commands = {}
+
+
+def count(what, faults):
+    global passed, failed
+    for fault in faults:
+        print(fault)
+    print(("FAILED: " if faults else "ok: ") + what, flush=True)
+    passed, failed = passed + (not faults), failed + bool(faults)
+
+
+def end():
+    print(f"{passed} passed, {failed} failed")
+    sys.exit(1 if failed else 0)
+
+
+def need(*names):
+    """Finds how the proved programs are run. Where one is missing, or the independent program is, that is told and nothing else is tried."""
+    for name in names:
+        found = subprocess.run([ROOT / "tests/run-program", "--command", name], stdout=subprocess.PIPE, stderr=subprocess.PIPE, text=True)
+        commands[name] = found.stdout.splitlines()
+        if found.returncode != 0:
+            count(f"the proved program {name} is there", [found.stderr.strip()])
+    if not ORACLE.is_file():
+        count("the independent program is there", [f"{ORACLE.relative_to(ROOT)} is missing: tests/outside/30-oracle builds it"])
+    if failed:
+        end()
+
+
+def proved(name):
+    return commands[name]
+
+
+def oracle(*words):
+    return [str(ORACLE), *map(str, words)]
+
+
+def made(*words):
+    """What the independent program makes or prints without any input."""
+    return subprocess.run(oracle(*words), stdout=subprocess.PIPE, stdin=subprocess.DEVNULL, check=True).stdout
+
+
+def output(command, octets):
+    """What a program prints of these octets, and what it complains of: an exit status that is not 0 too."""
+    done = subprocess.run(command, input=octets, stdout=subprocess.PIPE, stderr=subprocess.PIPE, timeout=3600)
+    return done.stdout, done.stderr or (b"exit status %d" % done.returncode if done.returncode else b"")
+
+
+def lines_of(octets):
+    return octets.decode("utf-8", "replace").splitlines()
+
+
+def shared(ours, theirs):
+    """How many octets two outputs have alike at their front."""
+    low, high = 0, min(len(ours), len(theirs))
+    while low < high:
+        middle = (low + high + 1) // 2
+        low, high = (middle, high) if ours[low:middle] == theirs[low:middle] else (low, middle - 1)
+    return low
+
+
+def line_at(text, start):
+    end = text.find(b"\n", start)
+    line = text[start:] if end < 0 else text[start : end + 1]
+    # an end that is missing is a difference too
+    return repr(line.decode("utf-8", "replace")) if line else "(no more lines)"
+
+
+def same(name, pair, ours, theirs, records=None):
+    """Faults of two outputs that must be the same bytes: the first line that differs, as each of the pair has it, and the records up to it."""
+    if ours == theirs:
+        return []
+    at = shared(ours, theirs)
+    start = ours.rfind(b"\n", 0, at) + 1
+    number = ours.count(b"\n", 0, at)  # line 1 is the one of columns, and record n prints line n + 1
+    text = [f"{name}: line {number + 1} differs"] + [f"  {side}: {line_at(whole, start)}" for side, whole in zip(pair, (ours, theirs))]
+    if records is not None:
+        before = output(oracle("list"), records[: number * RECORD])[0]
+        text += ["  the records up to it:"] + [f"    {line}" for line in lines_of(before)[-SHOWN:]]
+    return ["\n".join(text)]
+
+
+def both(name, program, records):
+    """Faults of a proved program against the independent one on these records, and what the proved one prints."""
+    ours, complaint = output(proved(program), records)
+    faults = [f"{name}: {program} complains: {complaint.decode(errors='replace').strip()}"] if complaint else []
+    return faults + same(f"{name}, {program}", ("proved", "oracle"), ours, output(oracle(program), records)[0], records), ours
+
+
+def in_parallel(function, items):
+    with concurrent.futures.ThreadPoolExecutor(WORKERS) as pool:
+        return list(pool.map(function, items))
