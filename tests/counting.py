@@ -15,6 +15,7 @@ import sys
 ROOT = os.path.dirname(os.path.dirname(os.path.abspath(__file__)))
 NATIVE = platform.machine() == "x86_64"
 NEAR = 1 << 24  # a program's own code is nearer to its functions than this; the C library is not
+LONGEST_CALL = 7  # octets of a call instruction, behind which a function returns
 RED_ZONE = 128  # what a function may use below the stack pointer on x86-64, if it calls no other
 LIBRARY = "the C library"
 
@@ -98,23 +99,22 @@ class Machine:
     def logged_calls(self, symbol, words, given, output, wanted=("-d", "exec,nochain")):
         """A line `Trace` of the log is an instruction, by its place and, in the program, its function; the
         registers before it follow, where they are wanted."""
-        calls, before, back = [], 0, None
+        calls, before, call = [], 0, None
         for line in self.log(words, given, output, wanted):
             if line.startswith(b"Trace "):
                 at = int(line.split(b"/", 2)[1], 16)
-                if back is None and line.endswith(b"] " + symbol.encode() + b"\n"):
-                    # the instruction before is the call, of five octets
-                    start, back, own, library, top, low = at, before + 5, 0, 0, 0, 0
-                elif at == back:
+                if call is None and line.endswith(b"] " + symbol.encode() + b"\n"):
+                    start, call, own, library, top, low = at, before, 0, 0, 0, 0
+                elif call is not None and call < at <= call + LONGEST_CALL:
                     calls.append((own, library, top + 8 - low + RED_ZONE, start))
-                    back = None
-                if back is not None and at != before:
+                    call = None
+                if call is not None and at != before:
                     own, library = (own + 1, library) if abs(at - start) < NEAR else (own, library + 1)
                 before = at
-            elif back is not None and b"RSP=" in line:
+            elif call is not None and b"RSP=" in line:
                 pointer = int(line.split(b"RSP=")[1][:16], 16)
                 top, low = top or pointer, min(low or pointer, pointer)
-        if back is not None:
+        if call is not None:
             fail(f"{symbol} does not return")
         return calls
 

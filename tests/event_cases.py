@@ -60,6 +60,7 @@ RUNS = [
     (in_one_slot, IDLE, meets(-1, TRIGGER), 0, "keys of one slot, trigger on the last record"),
     (in_one_slot, AWAITING, meets(-1, RELEASE), 0, "keys of one slot, Awaiting, release on the last"),
 ]
+ORDINARY = RUNS[:-3]  # the others have keys that fall into few slots
 
 
 def input_of(run, count):
