@@ -141,7 +141,8 @@ class Machine:
 
 
 def plain(name):
-    """A function's name without what Rust's compiler puts around it."""
+    """A function's name without what Rust's compiler puts around it, and valgrind behind a recursive one."""
+    name = re.sub(r"'\d+$", "", name)
     mangled = re.match(r"_ZN(.*)17h[0-9a-f]{16}E", name)
     if not mangled:
         return name

@@ -1,25 +1,29 @@
-"""Runs of the trace that are measured: made by the independent program, and what they cost by function."""
+"""What the independent program makes to measure by, and what a run of the trace costs by function."""
 import collections
 import os
 import subprocess
 
 from counting import ROOT, fail
 
-SEED = "1"
 RECORD = 16
 ORACLE = os.path.join(ROOT, "target/oracle/release/oracle")
 
 
-def make_records(count, name):
-    """So many records of one run, written to a file by the independent program, which is built first."""
+def make(words, name):
+    """What the independent program makes from these words, in a file; the program is built first."""
     settings = {**os.environ, "CARGO_TARGET_DIR": os.path.join(ROOT, "target/oracle")}
     build = ["cargo", "build", "--release", "--offline", "--quiet", "--manifest-path", os.path.join(ROOT, "oracle/Cargo.toml")]
     try:
         subprocess.run(build, check=True, env=settings)
         with open(name, "wb") as file:
-            subprocess.run([ORACLE, "make-trace", SEED, str(count)], stdout=file, check=True)
+            subprocess.run([ORACLE, *words], stdout=file, check=True)
     except (OSError, subprocess.CalledProcessError) as problem:
-        fail(f"the independent program makes no records: {problem}")
+        fail(f"the independent program makes nothing: {problem}")
+
+
+def make_records(count, name):
+    """So many records of one run."""
+    make(["make-trace", "1", str(count)], name)
 
 
 def by_function(machine, words, records, count):
