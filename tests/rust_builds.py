@@ -29,6 +29,11 @@ def problem():
     return None
 
 
+def version():
+    told = subprocess.run([COMPILER, "-vV"], capture_output=True, text=True, check=True).stdout.splitlines()
+    return ", ".join(line for line in told if line.startswith(("rustc ", "LLVM ")))
+
+
 def linked_by_the_kit(folder):
     """The compiler's flags with which the kit's linker and C library make a program; libraries go to a folder."""
     tools = toolchain()
