@@ -1,7 +1,7 @@
 -- One opening or event by key, over a row of records: the answer and signals, and the whole new row (01, "The table and its records", "Numbers of refusal").
 -- Assumes nothing.
 use Prim.Native.Nat.{ℕ}
-use mathlib.Core.Bool.{Bool, true, _&&_, cond}
+use mathlib.Core.Bool.{Bool, true, false, _&&_, cond}
 use mathlib.Core.List.{List, []}
 use lib.Dec.{eqb}
 use lib.ListN.{length, set}
@@ -23,6 +23,10 @@ use Rattle.source_table.specs.declared.Sought.{Sought}
 use Rattle.source_table.specs.declared.Seen.{Seen}
 use Rattle.source_table.specs.declared.Ran.{Ran}
 use Rattle.source_table.specs.Fit.{fitRecord, fitKeys}
+
+abbrev pub isMissing : Found → Bool
+isMissing (At j d) = false
+isMissing Nothing = true
 
 -- what is found stays; else the record at i is, where it has the key
 abbrev pub laterOf : Found → ℕ → ℕ → Call → Found

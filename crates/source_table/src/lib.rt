@@ -3,11 +3,12 @@
 // Few thin functions touch the lent row (survey, put, handle, look, handle_fit) and one the row by value (handle64): each is an instance of a walk of the crate
 // lent. All that they decide, covered code decides on plain values.
 ghost use mathlib.Core.Path.{_≡_};
+ghost use lib.Dec.{eqb};
 ghost use lib.ListN.{set};
 ghost use mathlib.Core.Bool.{_&&_};
 ghost use Rattle.source_states.specs.declared.State.the-variants.{SoftProceeding};
 ghost use Rattle.source_table.specs.Fit.{isEmptied, isWithin, fitHeld, fitRecord};
-ghost use Rattle.source_table.specs.Table.{laterOf, soughtAtStart, soughtOf, soughtIn, startOf, stepOf, seenOf, keysOf, refusedAt, placedAt, openingOf, meetingOf, decideFitOf, decideOf, ranOf, tableOf, ranFitOf, tableFitOf};
+ghost use Rattle.source_table.specs.Table.{isMissing, laterOf, soughtAtStart, soughtOf, soughtIn, startOf, stepOf, seenOf, keysOf, refusedAt, placedAt, openingOf, meetingOf, decideFitOf, decideOf, ranOf, tableOf, ranFitOf, tableFitOf};
 use signal::Answer;
 use signal::Signal;
 use signal::Wanted;
@@ -130,19 +131,34 @@ fn record_fit(call: Call) -> bool
     held_fit(call.last, state)
 }
 
-// What is found stays; else the record at i is, where it has the key.
+fn missing(found: Found) -> bool
+    ensures { λ r. ⌜ r ≡ isMissing found ⌝ }
+{
+    match found {
+        Found::At(_, _) => false,
+        Found::Nothing => true,
+    }
+}
+
+// The key is compared first: few records have it.
+fn takes(found: Found, key: u32, c: Call) -> bool
+    ensures { λ r. ⌜ r ≡ (eqb (c .key) key && isMissing found) ⌝ }
+{
+    if c.key == key {
+        return missing(found);
+    }
+    false
+}
+
+// What is found stays; else the record at i is, where it has the key. The one that stays is not written anew, so that a record that is passed over costs no copy (docs/SPEED.md).
 fn later(found: Found, key: u32, i: usize, c: Call) -> Found
     ensures { λ r. ⌜ r ≡ laterOf found key i c ⌝ }
 {
-    match found {
-        Found::At(j, d) => Found::At(j, d),
-        Found::Nothing => {
-            if c.key == key {
-                return Found::At(i, c);
-            }
-            Found::Nothing
-        }
+    let mut kept = found;
+    if takes(found, key, c) {
+        kept = Found::At(i, c);
     }
+    kept
 }
 
 fn seek_start(key: u32) -> Sought

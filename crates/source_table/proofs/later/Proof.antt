@@ -1,24 +1,42 @@
 -- `source_table::later` meets its contract. Assumes nothing.
+use Prim.Native.Nat.{ℕ}
+use mathlib.Core.Path.{_≡_, refl, sym, ap, _∙_}
+use mathlib.Core.Bool.{Bool, true, false, _&&_, cond}
+use lib.Dec.{eqb}
 use borrow.Author.Needs.{needs}
-use borrow.Author.Tests.{eq-eqb, ne-eqb}
+use Rattle.source.specs.declared.Call.{Call}
+use Rattle.source_table.specs.declared.Found.{Found}
+use Rattle.source_table.specs.declared.Found.the-variants.{At, Nothing}
+use Rattle.source_table.specs.Table.{isMissing, laterOf}
 use Rattle.source_table.proofs.later.Statement.{statement}
 use Rattle.source_table.proofs.later.Tie as tie
 
+-- one test in place of two
+by-one-test : (found : Found) (key i : ℕ) (c : Call) → cond (eqb (c .key) key && isMissing found) (At i c) found ≡ laterOf found key i c
+by-one-test (At j d) key i c = by-test (eqb (c .key) key)
+  where
+    by-test : (b : Bool) → cond (b && false) (At i c) (At j d) ≡ At j d
+    by-test true = refl
+    by-test false = refl
+by-one-test Nothing key i c = by-test (eqb (c .key) key)
+  where
+    by-test : (b : Bool) → cond (b && true) (At i c) Nothing ≡ cond b (At i c) Nothing
+    by-test true = refl
+    by-test false = refl
+
+tested : (b : Bool) (found : Found) (key i : ℕ) (c : Call) → (eqb (c .key) key && isMissing found) ≡ b → cond b (At i c) found ≡ laterOf found key i c
+tested b found key i c p = sym (ap (λ b. cond b (At i c) found) p) ∙ by-one-test found key i c
+
 returns : tie.Need-returns
-returns c = simp (c .before .before .enum-told .given .1, eq-eqb _ _ (c .if1 .taken))
+returns c = tested true (c .before .before .args .found) _ _ _ (sym (c .before .takes .ensures) ∙ c .if1 .taken)
 
 returns-2 : tie.Need-returns-2
-returns-2 c = simp (c .before .found .given .1)
-
-returns-3 : tie.Need-returns-3
-returns-3 c = simp (c .before .before .enum-told .given .1, ne-eqb _ _ (c .if1 .left))
+returns-2 c = tested false (c .before .before .args .found) _ _ _ (sym (c .before .takes .ensures) ∙ c .if1 .left)
 
 pub later-spec : {M : Type 1} → statement M
 later-spec =
     tie.close
     (tie.spec
-    (λ c. search needs)
-    (λ c. search needs)
+    (λ c κs. search needs)
     returns
-    returns-2
-    returns-3)
+    returns-2)

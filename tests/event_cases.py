@@ -1,0 +1,85 @@
+"""Tables with an event each, in the form of docs/TABLES.md, and what one call of the checked entry costs on them."""
+import os
+import random
+import struct
+
+from counting import fail
+
+RECORD = 20
+OPENING, TRIGGER, RELEASE = 0, 1, 6
+IDLE, AWAITING = (1, 1, 0, 1), (7, 1, 2, 2)  # the state's number, incumbent, rerouting, last number
+
+
+def record(key, held):
+    state, incumbent, rerouting, last = held
+    return struct.pack(">IBBBxHHHIxx", key, 1, 2, state, incumbent, rerouting, last, 0)
+
+
+def at_random(count):
+    return random.Random(1).sample(range(1, 1 << 32), count)
+
+
+def in_one_slot(count):
+    """Their products with the multiplier of crates/distinct are 1, 2, 3 .. modulo 2^32, all in slot 0."""
+    keys = [pow(2654435761, -1, 1 << 32) * product % (1 << 32) for product in range(1, count + 1)]
+    assert all(key * 2654435761 // 4194304 % 1024 == 0 for key in keys)
+    return keys
+
+
+def meets(place, kind):
+    return lambda keys, records: (kind, keys[place], records)
+
+
+def opens_last(keys, records):
+    return OPENING, keys[-1], records[:-1] + [bytes(RECORD)]
+
+
+def last_unfit(keys, records):
+    return TRIGGER, keys[0], records[:-1] + [record(keys[-1], (1, 1, 0, 0))]
+
+
+def last_key_again(keys, records):
+    return TRIGGER, keys[0], records[:-1] + [records[0]]
+
+
+def no_such_key(keys, records):
+    return TRIGGER, keys[-1], records[:-1] + [record(keys[-1] ^ 1, IDLE)]
+
+
+# keys, what each record holds, event, answer, and what a line calls it
+RUNS = [
+    (lambda count: range(1, count + 1), IDLE, meets(-1, TRIGGER), 0, "keys 1 to n, trigger on the last record"),
+    (at_random, IDLE, meets(-1, TRIGGER), 0, "random keys, trigger on the last record"),
+    (at_random, IDLE, meets(0, TRIGGER), 0, "random keys, trigger on the first record"),
+    (at_random, IDLE, opens_last, 0, "random keys, opening into the last record"),
+    (at_random, IDLE, no_such_key, 105, "random keys, refused 105: no such key"),
+    (at_random, IDLE, last_unfit, 101, "random keys, refused 101: last record unfit"),
+    (at_random, IDLE, last_key_again, 101, "random keys, refused 101: last key is the first"),
+    (at_random, AWAITING, meets(-1, RELEASE), 0, "random keys, Awaiting, release on the last"),
+    (lambda count: range(842, 842 * count + 1, 842), IDLE, meets(-1, TRIGGER), 0, "keys in steps of 842, trigger on the last"),
+    (in_one_slot, IDLE, meets(-1, TRIGGER), 0, "keys of one slot, trigger on the last record"),
+    (in_one_slot, AWAITING, meets(-1, RELEASE), 0, "keys of one slot, Awaiting, release on the last"),
+]
+ORDINARY = RUNS[:-3]  # the others have keys that fall into few slots
+
+
+def input_of(run, count):
+    keys_of, held, event = run[:3]
+    keys = keys_of(count)
+    kind, key, records = event(keys, [record(key, held) for key in keys])
+    return struct.pack(">H", count) + b"".join(records) + struct.pack(">BxxxI8x", kind, key)
+
+
+def cost(machine, program, symbol, run, count, *wanted):
+    """What `Machine.calls` tells of the one call of the entry, which must give the answer that is expected."""
+    case, output = (os.path.join(machine.folder, name) for name in ("case", "output"))
+    with open(case, "wb") as file:
+        file.write(input_of(run, count))
+    calls = machine.calls(symbol, [program], case, output, *wanted)
+    with open(output) as file:
+        shown = file.readline()
+    if not shown.startswith(f"case 1 answer {run[3]} n {count} "):
+        fail(f"{run[4]}, {count} records: it prints {shown!r}, and the answer {run[3]} is expected")
+    if len(calls) != 1:
+        fail(f"{symbol} was seen {len(calls)} times, not once: is it still a function of its own?")
+    return calls[0]
