@@ -2,3 +2,4 @@ pub mod Laws
 pub mod Placed
 pub mod Steps
 pub mod Empty
+pub mod Claims

@@ -110,7 +110,7 @@ module _ (w : Columns) (s : List ℕ) (p : Past) (xs : List ℕ) (r : ℕ) (t : 
           onward t ks (sym (m .0)) (here .keys) (here .calls) (more o′ (eo ∙ sym (m .1)) put)
 
 -- after a bad record nothing changes
-still : (w : Columns) (s : List ℕ) (p : Past) (r k : ℕ) → after w s p r .good ≡ false → after w s p (k + r) ≡ after w s p r
+pub still : (w : Columns) (s : List ℕ) (p : Past) (r k : ℕ) → after w s p r .good ≡ false → after w s p (k + r) ≡ after w s p r
 still w s p r zero g = let e : 0 + r ≡ r = omega arith in ap (after w s p) e
 still w s p r (suc k) g =
     let e : suc k + r ≡ suc (k + r) = omega arith in

@@ -1,0 +1,106 @@
+-- The claims on a run (specs/Claims), proved. Assumes nothing.
+use Prim.Native.Nat.{ℕ, zero, suc, _+_, _*_}
+use native.Mathlib.Omega.{arith}
+use mathlib.Core.Path.{_≡_, refl, sym, _∙_, ap, subst}
+use mathlib.Core.Bool.{Bool, true, false, cond}
+use mathlib.Core.List.{List, [], _∷_, _++_, append-assoc, append-nil}
+use lib.ListN.{take, drop, replicate}
+use lib.Seq.{drop-drop}
+use Rattle.distinct.specs.Distinct.{has, distinctOf}
+use Rattle.lent.specs.Search.{readFrom}
+use Rattle.lines.specs.Lines.{numberText, spelled}
+use Rattle.source.specs.declared.Call.{Call}
+use Rattle.source.specs.Record.{emptied}
+use Rattle.signal.specs.Numbers.{answerNumber}
+use Rattle.source_table.specs.declared.Ran.{Ran}
+use Rattle.source_table.specs.Table.{ranOf, tableOf, ranFitOf, tableFitOf}
+use Rattle.source_table.specs.Claims.{FitTable}
+use Rattle.source_table.proofs.Fit.{fit-exactly}
+use Rattle.source_table.proofs.Claims.{fit-needs-no-check}
+use Rattle.source_table.proofs.Kept.{stays-fit as step-stays-fit}
+use Rattle.event_record.specs.declared.Request.{Request}
+use Rattle.event_record.specs.declared.Request.the-variants.{Bad, Asks}
+use Rattle.event_record.specs.Record.{decodedOf}
+use Rattle.trace_line.specs.declared.Columns.{Columns}
+use Rattle.trace_line.specs.Line.{firstLine, numbersText, restText, lineText}
+use Rattle.trace_run.specs.Run.{Past, begin, after, onRequest, onDecoded, recordAt, shownOf, badText}
+use Rattle.trace_run.specs.Claims as claim
+use Rattle.trace_run.specs.Claims.{Asked, Step, checkedRun, uncheckedRun, printedOf}
+use Rattle.trace_run.proofs.Empty.{empty-is-fit}
+use Rattle.trace_run.proofs.Steps.{still}
+
+pub five-lines : claim.FiveLines
+unfolding printedOf firstLine lineText numbersText restText numberText spelled onRequest recordAt shownOf readFrom has distinctOf
+five-lines = refl
+
+abbrev stepBy : Ran → List Call → Step
+stepBy d ys = record { answer = answerNumber (d .done .answer); signals = d .done .signals; table = ys }
+
+-- over a fit table, and so over every table that is reached from one
+same-run : (asked : List Asked) (ys : List Call) → FitTable ys → checkedRun asked ys ≡ uncheckedRun asked ys
+same-run [] ys f = refl
+same-run (a ∷ more) ys f =
+    let e = fit-needs-no-check ys (a .key) (a .act) (fit-exactly ys .1 f) in
+    ap (λ (l : List Step). stepBy (ranOf ys (a .key) (a .act)) (tableOf ys (a .key) (a .act)) ∷ l) (same-run more (tableOf ys (a .key) (a .act)) (step-stays-fit ys (a .key) (a .act) f))
+    ∙ (λ j. stepBy (sym (e .0) j) (sym (e .1) j) ∷ uncheckedRun more (sym (e .1) j))
+
+pub no-check-needed : claim.NoCheckNeeded
+no-check-needed n few asked = same-run asked (replicate n emptied) (empty-is-fit n few)
+
+on-fit : (w : Columns) (p : Past) (key : ℕ) (q : Request) → FitTable (p .table) → FitTable (onRequest w p key q .table)
+unfolding onRequest
+on-fit w p key Bad f = f
+on-fit w p key (Asks act) f = step-stays-fit (p .table) key act f
+
+by-good : (w : Columns) (s : List ℕ) (p : Past) (r : ℕ) (b : Bool) → FitTable (after w s p r .table) → FitTable (cond b (onDecoded w (after w s p r) (decodedOf (recordAt s (r * 16)))) (after w s p r) .table)
+by-good w s p r true f = on-fit w (after w s p r) (decodedOf (recordAt s (r * 16)) .key) (decodedOf (recordAt s (r * 16)) .request) f
+by-good w s p r false f = f
+
+pub stays-fit : claim.StaysFit
+stays-fit w s p zero f = f
+stays-fit w s p (suc r) f = by-good w s p r (after w s p r .good) (stays-fit w s p r f)
+
+pub bad-ends : claim.BadEnds
+bad-ends = still
+
+-- the record of a chunk is that of the whole
+same-record : (s : List ℕ) (m k : ℕ) → recordAt (drop (m * 16) s) (k * 16) ≡ recordAt s ((k + m) * 16)
+unfolding recordAt
+same-record s m k =
+    let e : m * 16 + k * 16 ≡ (k + m) * 16 = omega arith in
+    ap (take 16) (drop-drop (k * 16) (m * 16) s ∙ ap (λ (n : ℕ). drop n s) e)
+
+-- a run with a text in front of what it prints
+abbrev behind : List ℕ → Past → Past
+behind front q = record { table = q .table; text = front ++ q .text; count = q .count; good = q .good }
+
+on-behind : (w : Columns) (front : List ℕ) (q : Past) (key : ℕ) (x : Request) → onRequest w (behind front q) key x ≡ behind front (onRequest w q key x)
+unfolding onRequest
+on-behind w front q key Bad = λ i. record { table = q .table; text = append-assoc front (q .text) badText i; count = q .count; good = false }
+on-behind w front q key (Asks act) = λ i.
+    record {
+      table = tableOf (q .table) key act;
+      text = append-assoc front (q .text) (lineText w (q .count + 1) (shownOf (q .table) key act)) i;
+      count = q .count + 1;
+      good = true;
+    }
+
+next-behind : (w : Columns) (front : List ℕ) (q : Past) (os : List ℕ) (b : Bool) →
+    cond b (onDecoded w (behind front q) (decodedOf os)) (behind front q) ≡ behind front (cond b (onDecoded w q (decodedOf os)) q)
+next-behind w front q os true = on-behind w front q (decodedOf os .key) (decodedOf os .request)
+next-behind w front q os false = refl
+
+nothing-yet : (q : Past) → q .good ≡ true → q ≡ behind (q .text) (begin (q .table) (q .count))
+nothing-yet q g i = record { table = q .table; text = sym (append-nil (q .text)) i; count = q .count; good = g i }
+
+pub in-chunks : claim.InChunks
+in-chunks w s p m zero g =
+    let e : 0 + m ≡ m = omega arith in
+    ap (after w s p) e ∙ nothing-yet (after w s p m) g
+in-chunks w s p m (suc k) g =
+    let e : suc k + m ≡ suc (k + m) = omega arith in
+    let c : Past = after w (drop (m * 16) s) (begin (after w s p m .table) (after w s p m .count)) k in
+    ap (after w s p) e
+    ∙ (ap (λ (q : Past). cond (q .good) (onDecoded w q (decodedOf (recordAt s ((k + m) * 16)))) q) (in-chunks w s p m k g)
+    ∙ (next-behind w (after w s p m .text) c (recordAt s ((k + m) * 16)) (c .good)
+    ∙ ap (λ (os : List ℕ). behind (after w s p m .text) (cond (c .good) (onDecoded w c (decodedOf os)) c)) (sym (same-record s m k))))

@@ -1,0 +1,91 @@
+-- What is claimed of a run, for a reader who does not want to follow it record by record. Proofs: proofs/Claims.antt. Assumes nothing.
+use Prim.Native.Nat.{ℕ, _+_, _*_, _/_, _%_, _≤_}
+use mathlib.Core.Bool.{true, false, _&&_, not, cond}
+use mathlib.Core.List.{List, [], _∷_, _++_}
+use mathlib.Core.Path.{_≡_}
+use lib.Dec.{eqb}
+use lib.ListN.{length, drop, replicate}
+use Rattle.lines.specs.Lines.{ascii}
+use Rattle.signal.specs.declared.Signal.{Signal}
+use Rattle.signal.specs.Numbers.{answerNumber}
+use Rattle.source.specs.declared.Call.{Call}
+use Rattle.source.specs.Record.{emptied}
+use Rattle.source_table.specs.declared.Act.{Act}
+use Rattle.source_table.specs.Table.{ranOf, tableOf, ranFitOf, tableFitOf}
+use Rattle.source_table.specs.Claims.{FitTable}
+use Rattle.trace_line.specs.declared.Columns.{Columns}
+use Rattle.trace_line.specs.declared.Columns.the-variants.{Trace}
+use Rattle.trace_line.specs.Line.{firstLine}
+use Rattle.trace_run.specs.Run.{Past, begin, after, badText}
+
+-- a run over all of the input, from 64 empty records
+abbrev pub runOf : Columns → List ℕ → Past
+runOf w octets = after w octets (begin (replicate 64 emptied) 0) (length octets / 16)
+
+-- all that is printed of an input: the first line, the lines of the run, and `bad` for a last record that is cut short
+unfoldable pub printedOf : Columns → List ℕ → List ℕ
+printedOf w octets = firstLine w ++ (runOf w octets .text ++ cond (runOf w octets .good && not (eqb (length octets % 16) 0)) badText [])
+
+-- B1 to B4 as records: open key 7 with hard and symmetric soft, setup with clearing and number 3, ready, the setup again
+abbrev pub firstFour : List ℕ
+firstFour =
+    0 ∷ 1 ∷ 1 ∷ 2 ∷ 0 ∷ 0 ∷ 0 ∷ 7 ∷ 0 ∷ 0 ∷ 0 ∷ 0 ∷ 0 ∷ 0 ∷ 0 ∷ 0
+    ∷ 5 ∷ 1 ∷ 0 ∷ 0 ∷ 0 ∷ 0 ∷ 0 ∷ 7 ∷ 0 ∷ 0 ∷ 0 ∷ 3 ∷ 0 ∷ 0 ∷ 0 ∷ 0
+    ∷ 8 ∷ 0 ∷ 0 ∷ 0 ∷ 0 ∷ 0 ∷ 0 ∷ 7 ∷ 0 ∷ 0 ∷ 0 ∷ 0 ∷ 0 ∷ 0 ∷ 0 ∷ 0
+    ∷ 5 ∷ 1 ∷ 0 ∷ 0 ∷ 0 ∷ 0 ∷ 0 ∷ 7 ∷ 0 ∷ 0 ∷ 0 ∷ 3 ∷ 0 ∷ 0 ∷ 0 ∷ 0
+    ∷ []
+
+-- a line of its own
+abbrev pub line : List ℕ → List ℕ
+line text = text ++ (10 ∷ [])
+
+-- 01, "The trace": B1 to B4 print exactly five lines.
+abbrev pub FiveLines : Type 0
+FiveLines =
+    printedOf Trace firstFour
+    ≡ line (ascii "line answer state incumbent rerouting number")
+    ++ (line (ascii "1 0 1 1 0 0") ++ (line (ascii "2 0 6 1 2 3") ++ (line (ascii "3 0 7 1 2 3") ++ line (ascii "4 0 7 1 2 3"))))
+
+-- what an opening or event leaves: the answer's number, the signals, and the whole table
+pub record Step : Type 0 where
+  pub answer : ℕ
+  pub signals : List Signal
+  pub table : List Call
+
+-- an opening or event, with its key
+pub record Asked : Type 0 where
+  pub key : ℕ
+  pub act : Act
+
+-- one after the other, through the entry that checks the table first, and through the one that does not
+abbrev pub checkedRun : List Asked → List Call → List Step
+checkedRun [] ys = []
+checkedRun (a ∷ more) ys =
+    record { answer = answerNumber (ranOf ys (a .key) (a .act) .done .answer); signals = ranOf ys (a .key) (a .act) .done .signals; table = tableOf ys (a .key) (a .act) }
+    ∷ checkedRun more (tableOf ys (a .key) (a .act))
+
+abbrev pub uncheckedRun : List Asked → List Call → List Step
+uncheckedRun [] ys = []
+uncheckedRun (a ∷ more) ys =
+    record { answer = answerNumber (ranFitOf ys (a .key) (a .act) .done .answer); signals = ranFitOf ys (a .key) (a .act) .done .signals; table = tableFitOf ys (a .key) (a .act) }
+    ∷ uncheckedRun more (tableFitOf ys (a .key) (a .act))
+
+-- Demand 1, 01, 101: from an empty table the check for 101 decides nothing, over any sequence of openings and events: answers, signals and tables are the same without it.
+abbrev pub NoCheckNeeded : Type 0
+NoCheckNeeded = (n : ℕ) → n ≤ 1024 → (asked : List Asked) → checkedRun asked (replicate n emptied) ≡ uncheckedRun asked (replicate n emptied)
+
+-- Whatever records come, the table of a run stays fit.
+abbrev pub StaysFit : Type 0
+StaysFit = (w : Columns) (octets : List ℕ) (p : Past) (r : ℕ) → FitTable (p .table) → FitTable (after w octets p r .table)
+
+-- Decision 24: behind a bad record nothing is read.
+abbrev pub BadEnds : Type 0
+BadEnds = (w : Columns) (octets : List ℕ) (p : Past) (r k : ℕ) → after w octets p r .good ≡ false → after w octets p (k + r) ≡ after w octets p r
+
+-- It makes no difference where the input is cut into chunks, as long as it is between two records: the run goes on from the table and the count where it stood, and the lines
+-- stand one behind the other.
+abbrev pub InChunks : Type 0
+InChunks =
+    (w : Columns) (octets : List ℕ) (p : Past) (m k : ℕ) → after w octets p m .good ≡ true →
+    let chunk = after w (drop (m * 16) octets) (begin (after w octets p m .table) (after w octets p m .count)) k in
+    after w octets p (k + m) ≡ record { table = chunk .table; text = after w octets p m .text ++ chunk .text; count = chunk .count; good = chunk .good }
