@@ -19,3 +19,4 @@ pub mod CauseElement
 pub mod LineWords
 pub mod ScriptWords
 pub mod ScriptLine
+pub mod Trace

@@ -1,5 +1,5 @@
 -- What is claimed of a run, for a reader who does not want to follow it record by record. Proofs: proofs/Claims.antt. Assumes nothing.
-use Prim.Native.Nat.{ℕ, _+_, _*_, _/_, _%_, _≤_}
+use Prim.Native.Nat.{ℕ, _+_, _*_, _%_, _≤_}
 use mathlib.Core.Bool.{true, false, _&&_, not, cond}
 use mathlib.Core.List.{List, [], _∷_, _++_}
 use mathlib.Core.Path.{_≡_}
@@ -16,11 +16,11 @@ use Rattle.source_table.specs.Claims.{FitTable}
 use Rattle.trace_line.specs.declared.Columns.{Columns}
 use Rattle.trace_line.specs.declared.Columns.the-variants.{Trace}
 use Rattle.trace_line.specs.Line.{firstLine}
-use Rattle.trace_run.specs.Run.{Past, begin, after, badText}
+use Rattle.trace_run.specs.Run.{Past, begin, after, chunkOf, badText}
 
 -- a run over all of the input, from 64 empty records
 abbrev pub runOf : Columns → List ℕ → Past
-runOf w octets = after w octets (begin (replicate 64 emptied) 0) (length octets / 16)
+runOf w octets = chunkOf w octets (replicate 64 emptied) 0
 
 -- all that is printed of an input: the first line, the lines of the run, and `bad` for a last record that is cut short
 unfoldable pub printedOf : Columns → List ℕ → List ℕ

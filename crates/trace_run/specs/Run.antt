@@ -1,9 +1,9 @@
 -- What a run of the trace prints (01, "The trace"): event records of 16 octets each, over a table of calls. Each is one opening or event by key, as
 -- `source_table::handle` does it: `ranOf` and `tableOf` are the two that its contract fixes. Assumes nothing.
-use Prim.Native.Nat.{ℕ, zero, suc, _+_, _*_}
+use Prim.Native.Nat.{ℕ, zero, suc, _+_, _*_, _/_}
 use mathlib.Core.Bool.{Bool, true, false, cond}
 use mathlib.Core.List.{List, [], _∷_, _++_}
-use lib.ListN.{take, drop}
+use lib.ListN.{length, take, drop}
 use Rattle.lines.specs.Lines.{ascii}
 use Rattle.source.specs.declared.Call.{Call}
 use Rattle.source.specs.declared.Outcome.{Outcome}
@@ -59,3 +59,7 @@ abbrev pub after : Columns → List ℕ → Past → ℕ → Past
 after w octets p zero = p
 after w octets p (suc r) =
     cond (after w octets p r .good) (onDecoded w (after w octets p r) (decodedOf (recordAt octets (r * 16)))) (after w octets p r)
+
+-- all whole records of a chunk, from a table and a count on
+abbrev pub chunkOf : Columns → List ℕ → List Call → ℕ → Past
+chunkOf w octets ys n = after w octets (begin ys n) (length octets / 16)

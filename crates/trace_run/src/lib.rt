@@ -1,13 +1,13 @@
 // The run of the trace: event records of 16 octets each, over a table of 64 calls by value, and a line for each record.
 //
 // The keys of the table stand beside it, so that a search reads nothing else. No event is checked for 101: the table that a run is given is fit, and stays so.
-ghost use Prim.Native.Nat.{_+_, _≤_, _<_, _/_, _^_};
+ghost use Prim.Native.Nat.{_+_, _≤_, _<_, _^_};
 ghost use mathlib.Core.Bool.{true};
 ghost use mathlib.Core.Path.{_≡_};
 ghost use lib.ListN.{length};
 ghost use Rattle.lines.specs.Lines.{page, putText};
 ghost use Rattle.source_table.specs.Fit.{fitTable};
-ghost use Rattle.trace_run.specs.Run.{recordAt, begin, after};
+ghost use Rattle.trace_run.specs.Run.{recordAt, chunkOf};
 ghost use Rattle.trace_run.specs.Placed.{keysOf, indexOf, placeOf, refusedWith, workedOn, unplacedFor};
 use event_record::Request;
 use signal::Answer;
@@ -136,11 +136,7 @@ fn unplaced(key: u32, act: Act) -> Outcome
 // Every whole record of the input, in order, to lines at the start of the buffer; a bad one ends the run.
 pub fn run(table: [Call; 64], input: &[u8], out: &mut [u8], columns: Columns, start: u64) -> Ran
     requires { ⌜ (fitTable table ≡ true) × ((length (now input) ≤ 65536) × (start + 4096 < 2 ^ 64)) ⌝ }
-    ensures { λ r. ⌜ r .table ≡ after columns (now (input .entry)) (begin table start) (length (now (input .entry)) / 16) .table ⌝ }
-    ensures { λ r. ⌜ r .count ≡ after columns (now (input .entry)) (begin table start) (length (now (input .entry)) / 16) .count ⌝ }
-    ensures { λ r. ⌜ r .good ≡ after columns (now (input .entry)) (begin table start) (length (now (input .entry)) / 16) .good ⌝ }
-    ensures { λ r. ⌜ page (now (out .exit)) (r .at) ≡ putText (page (now (out .entry)) 0) (after columns (now (input .entry)) (begin table start) (length (now (input .entry)) / 16) .text) ⌝ }
-    ensures { λ r. ⌜ (fitTable (r .table) ≡ true) × (r .count ≤ start + 4096) ⌝ }
+    ensures { λ r. ⌜ (r .table ≡ chunkOf columns (now (input .entry)) table start .table) × ((r .count ≡ chunkOf columns (now (input .entry)) table start .count) × ((r .good ≡ chunkOf columns (now (input .entry)) table start .good) × ((page (now (out .exit)) (r .at) ≡ putText (page (now (out .entry)) 0) (chunkOf columns (now (input .entry)) table start .text)) × ((fitTable (r .table) ≡ true) × (r .count ≤ start + 4096))))) ⌝ }
 {
     let mut calls = table;
     let mut keys = keys_of(table);
