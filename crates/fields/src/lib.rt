@@ -78,7 +78,7 @@ fn put_digits(out: &mut [u8], at: usize, number: u32, end: u8) -> usize
 }
 
 // A number and the byte that ends it, where there is room. Most numbers have one digit.
-pub fn put_field_within(out: &mut [u8], at: usize, number: u32, end: u8) -> usize
+fn put_field_within(out: &mut [u8], at: usize, number: u32, end: u8) -> usize
     requires { ⌜ at + 11 ≤ length (now out) ⌝ }
     ensures { λ r. ⌜ (page (now (out .exit)) r ≡ putText (page (now (out .entry)) at) (numberText number ++ (end ∷ []))) × (r ≤ at + 11) ⌝ }
 {

@@ -3,7 +3,6 @@ use mathlib.Core.Path.{refl}
 use Rattle.one_answer.specs.One.{OneAnswer}
 use contract.Monad.{factI}
 use Rattle.one_answer.proofs.Law.{same, facts, paged}
-use Rattle.fields.proofs.put_field_within as put_field_within
 use Rattle.fields.proofs.put_field as put_field
 use Rattle.fields.proofs.put_count as put_count
 use Rattle.trace_line.proofs.put_first_line as put_first_line
@@ -11,8 +10,6 @@ use Rattle.trace_line.proofs.put_line as put_line
 use Rattle.trace_run.proofs.run as run
 use Rattle.trace_feed.proofs.serve as serve
 
-pub put_field_within-has-one-answer : {M : Type 1} → OneAnswer M put_field_within.ended put_field_within.clauses put_field_within.spec
-put_field_within-has-one-answer 𝓤 _ _ _ _ = (refl, λ _ _ _ _ _ _ _ _. facts 𝓤 (λ p q. paged refl (p .0) (q .0)))
 
 pub put_field-has-one-answer : {M : Type 1} → OneAnswer M put_field.ended put_field.clauses put_field.spec
 put_field-has-one-answer 𝓤 _ _ _ _ = (refl, λ _ _ _ _ _ _ _ _. facts 𝓤 (paged refl))

@@ -1,7 +1,5 @@
 // The lines of the trace and of the watch: what an event record did, in numbers.
-ghost use Prim.Native.Nat.{_+_, _≤_};
 ghost use mathlib.Core.Path.{_≡_};
-ghost use lib.ListN.{length};
 ghost use Rattle.lines.specs.Lines.{page, putText};
 ghost use Rattle.trace_line.specs.Line.{firstLine, numbersText, restText, lineText};
 use signal::Answer;
@@ -32,25 +30,10 @@ pub fn put_first_line(out: &mut [u8], at: usize, columns: Columns) -> usize
     }
 }
 
-// The answer, the state and what it holds, where there is room for four fields.
-fn put_numbers_within(out: &mut [u8], at: usize, answer: Answer, state: State) -> usize
-    requires { ⌜ at + 44 ≤ length (now out) ⌝ }
-    ensures { λ r. ⌜ page (now (out .exit)) r ≡ putText (page (now (out .entry)) at) (numbersText answer state) ⌝ }
-{
-    let answered = fields::put_field_within(out, at, answer.number() as u32, b' ');
-    let stated = fields::put_field_within(out, answered, state.number() as u32, b' ');
-    let held = fields::put_field_within(out, stated, state.incumbent() as u32, b' ');
-    fields::put_field_within(out, held, state.rerouting() as u32, b' ')
-}
-
+// The answer, the state, and what it holds.
 fn put_numbers(out: &mut [u8], at: usize, answer: Answer, state: State) -> usize
     ensures { λ r. ⌜ page (now (out .exit)) r ≡ putText (page (now (out .entry)) at) (numbersText answer state) ⌝ }
 {
-    if at < out.len() {
-        if 44 <= out.len() - at {
-            return put_numbers_within(out, at, answer, state);
-        }
-    }
     let answered = fields::put_field(out, at, answer.number() as u32, b' ');
     let stated = fields::put_field(out, answered, state.number() as u32, b' ');
     let held = fields::put_field(out, stated, state.incumbent() as u32, b' ');

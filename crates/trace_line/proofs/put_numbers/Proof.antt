@@ -5,18 +5,14 @@ use borrow.Author.Needs.{needs}
 use Rattle.trace_line.proofs.put_numbers.Statement.{statement}
 use Rattle.trace_line.proofs.put_numbers.Tie as tie
 
-returns-2 : tie.Need-returns-2
+returns : tie.Need-returns
 unfolding numbersText
-returns-2 c = rw (← c .before .before .before .before .before .before .before .before .before .before .before .before .before .before .before .before .before .before .number .ensures, ← c .before .before .before .before .before .before .before .before .before .before .before .before .before .number2 .ensures, ← c .before .before .before .before .before .before .before .before .incumbent .ensures, ← c .before .before .before .rerouting .ensures) (and-then _ _ _ _ _ (c .before .before .before .before .before .before .before .before .before .before .before .before .before .before .before .before .before .put-field .ensures) (and-then _ _ _ _ _ (c .before .before .before .before .before .before .before .before .before .before .before .before .put-field2 .ensures) (and-then _ _ _ _ _ (c .before .before .before .before .before .before .before .put-field3 .ensures) (c .before .before .put-field4 .ensures))))
+returns c = rw (← c .before .before .before .before .before .before .before .before .before .before .before .before .before .before .before .before .before .before .number .ensures, ← c .before .before .before .before .before .before .before .before .before .before .before .before .before .number2 .ensures, ← c .before .before .before .before .before .before .before .before .incumbent .ensures, ← c .before .before .before .rerouting .ensures) (and-then _ _ _ _ _ (c .before .before .before .before .before .before .before .before .before .before .before .before .before .before .before .before .before .put-field .ensures) (and-then _ _ _ _ _ (c .before .before .before .before .before .before .before .before .before .before .before .before .put-field2 .ensures) (and-then _ _ _ _ _ (c .before .before .before .before .before .before .before .put-field3 .ensures) (c .before .before .put-field4 .ensures))))
 
 pub put-numbers-spec : {M : Type 1} → statement M
 put-numbers-spec =
     tie.close
     (tie.spec
-    (λ c. search needs)
-    (λ c κs. search needs)
-    (λ c. search needs)
-    (λ c. search needs)
     (λ c κs. search needs)
     (λ c. search needs)
     (λ c κs. search needs)
@@ -30,4 +26,4 @@ put-numbers-spec =
     (λ c. search needs)
     (λ c κs. search needs)
     (λ c. search needs)
-    returns-2)
+    returns)
