@@ -4,7 +4,7 @@ use native.Mathlib.Omega.{arith}
 use mathlib.Core.Path.{_≡_, refl, subst}
 use Rattle.event_record.specs.Record.{octet}
 use Rattle.event_record.specs.declared.Request.{Request}
-use Rattle.event_record.specs.declared.Request.the-variants.{Bad, Asks}
+use Rattle.event_record.specs.declared.Request.the-variants.{Bad}
 use Rattle.event_fault.specs.Claims as claim
 use Rattle.event_fault.specs.declared.Fault.{Fault}
 use Rattle.event_fault.specs.declared.Fault.the-variants.{NoFault, Misses}

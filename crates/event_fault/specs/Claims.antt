@@ -1,6 +1,6 @@
 -- What is claimed of a fault: that it is found exactly in a bad record, and that the byte told is the first that is not named. Proofs: proofs/Claims.antt. Assumes nothing.
 use Prim.Native.Nat.{ℕ, _≤_, _<_}
-use mathlib.Core.Bool.{Bool, _||_, cond, not}
+use mathlib.Core.Bool.{Bool, _||_, cond}
 use mathlib.Core.Logic.{_↔_}
 use mathlib.Core.Path.{_≡_}
 use mathlib.Core.List.{List}

@@ -1,6 +1,6 @@
 -- A fault in words (docs/BENCH.md, "list"). Assumes nothing.
 use Prim.Native.Nat.{ℕ}
-use mathlib.Core.List.{List, [], _∷_, _++_}
+use mathlib.Core.List.{List, [], _++_}
 use Rattle.lines.specs.Lines.{ascii, numberText}
 use Rattle.event_fault.specs.declared.Expected.{Expected}
 use Rattle.event_fault.specs.declared.Expected.the-variants.{SomeEvent, NamedOrNot, HardFlag, SoftService, PolicyFlag, CausePresent, CrankbackFound, SmallConnection}

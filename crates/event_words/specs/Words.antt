@@ -1,7 +1,7 @@
 -- An event with its key in words, as a line of `script` has them (docs/BENCH.md): the event's name, and every other word behind a blank. Assumes nothing.
 use Prim.Native.Nat.{ℕ}
 use mathlib.Core.Bool.{Bool, true, false, cond}
-use mathlib.Core.List.{List, [], _∷_, _++_}
+use mathlib.Core.List.{List, [], _++_}
 use lib.Dec.{eqb}
 use Rattle.lines.specs.Lines.{ascii, numberText}
 use Rattle.signal.specs.declared.Crankback.{Crankback}

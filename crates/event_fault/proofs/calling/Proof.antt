@@ -1,5 +1,4 @@
 -- `calling` meets its contract. Assumes nothing.
-use borrow.Author.Needs.{needs}
 use borrow.Author.Tests.{le-ltb, lt-ltb}
 use Rattle.event_fault.proofs.calling.Statement.{statement}
 use Rattle.event_fault.proofs.calling.Tie as tie

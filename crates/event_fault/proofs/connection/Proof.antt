@@ -1,5 +1,4 @@
 -- `connection` meets its contract. Assumes nothing.
-use borrow.Author.Needs.{needs}
 use borrow.Author.Tests.{le-ltb, lt-ltb}
 use Rattle.event_fault.proofs.connection.Statement.{statement}
 use Rattle.event_fault.proofs.connection.Tie as tie

@@ -1,5 +1,4 @@
 -- `open` meets its contract. Assumes nothing.
-use borrow.Author.Needs.{needs}
 use borrow.Author.Tests.{eq-eqb, le-ltb, lt-ltb, ne-eqb}
 use Rattle.event_fault.proofs.open.Statement.{statement}
 use Rattle.event_fault.proofs.open.Tie as tie

@@ -1,7 +1,7 @@
 -- `keep` meets its contract: after each turn that many octets have come, and what lies behind them is as it was. Assumes nothing.
 use Prim.Native.Nat.{ℕ, _+_, _-_, _≤_}
 use native.Mathlib.Omega.{arith}
-use mathlib.Core.Path.{_≡_, refl, sym, _∙_, ap}
+use mathlib.Core.Path.{_≡_, refl, _∙_}
 use lib.ListN.{length, take, drop, getD, length-set}
 use borrow.Author.Needs.{needs}
 use Rattle.list.proofs.Buffer.{moved, beyond}
