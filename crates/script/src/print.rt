@@ -1,13 +1,19 @@
 // What is written: records on standard output, and one line on standard error where the run ends early (docs/BENCH.md, "script").
+ghost use mathlib.Core.Path.{_≡_};
+ghost use lib.ListN.{take};
+ghost use Rattle.lines.specs.Lines.{page, putText};
+ghost use Rattle.script.specs.Complaint.{lineText, expectedText, tooLongText};
 use libc::STDERR_FILENO;
 use libc::STDOUT_FILENO;
-use lines::put_byte;
 use lines::put_number;
 use lines::put_word;
 use script_words::What;
+use script_words::put_what;
 
 // The first octets; all, where there are not more.
-pub(crate) fn first(octets: &[u8], length: usize) -> &[u8] {
+pub(crate) fn first(octets: &[u8], length: usize) -> &[u8]
+    ensures { λ r. ⌜ now r ≡ take length (now (octets .entry)) ⌝ }
+{
     if length < octets.len() {
         return &octets[..length];
     }
@@ -38,28 +44,43 @@ fn broken_off(records: &[u8]) -> bool {
 pub(crate) fn too_long(records: &[u8], number: u64) {
     if broken_off(records) {
         let mut out = io::buffer();
-        let mut at = put_line(&mut out, number);
-        at = put_word(
-            &mut out,
-            at,
-            b"at most 4096 octets before a comment or the end of the line\n",
-        );
-        io::write_all(STDERR_FILENO, first(&out, at));
+        let length = put_too_long(&mut out, 0, number);
+        io::write_all(STDERR_FILENO, first(&out, length));
     }
 }
 
 pub(crate) fn expected(records: &[u8], number: u64, what: What) {
     if broken_off(records) {
         let mut out = io::buffer();
-        let mut at = put_line(&mut out, number);
-        at = script_words::put_what(&mut out, at, what);
-        at = put_byte(&mut out, at, b'\n');
-        io::write_all(STDERR_FILENO, first(&out, at));
+        let length = put_expected(&mut out, 0, number, what);
+        io::write_all(STDERR_FILENO, first(&out, length));
     }
 }
 
-fn put_line(out: &mut [u8], number: u64) -> usize {
-    let mut at = put_word(out, 0, b"script: line ");
-    at = put_number(out, at, number);
-    put_word(out, at, b": expected ")
+fn put_line(out: &mut [u8], at: usize, number: u64) -> usize
+    ensures { λ r. ⌜ page (now (out .exit)) r ≡ putText (page (now (out .entry)) at) (lineText number) ⌝ }
+{
+    let named = put_word(out, at, b"script: line ");
+    let numbered = put_number(out, named, number);
+    put_word(out, numbered, b": expected ")
+}
+
+fn put_expected(out: &mut [u8], at: usize, number: u64, what: What) -> usize
+    ensures { λ r. ⌜ page (now (out .exit)) r ≡ putText (page (now (out .entry)) at) (expectedText number what) ⌝ }
+{
+    let named = put_line(out, at, number);
+    let told = put_what(out, named, what);
+    put_word(out, told, b"\n")
+}
+
+fn put_too_long(out: &mut [u8], at: usize, number: u64) -> usize
+    ensures { λ r. ⌜ page (now (out .exit)) r ≡ putText (page (now (out .entry)) at) (tooLongText number) ⌝ }
+{
+    let named = put_line(out, at, number);
+    let told = put_word(
+        out,
+        named,
+        b"at most 4096 octets before a comment or the end of the line",
+    );
+    put_word(out, told, b"\n")
 }

@@ -3,12 +3,14 @@ use Prim.Native.Nat.{ℕ, _≤_, _<_}
 use native.Mathlib.Omega.{arith}
 use mathlib.Core.Path.{_≡_, refl, sym, _∙_, ap, subst}
 use mathlib.Core.Bool.{Bool, true, false, cond}
-use mathlib.Core.List.{List, [], _++_, append-nil}
+use mathlib.Core.List.{List, [], _∷_, _++_, append-nil, append-assoc}
+use mathlib.Core.Logic.{inl}
 use lib.Dec.{eqb}
 use borrow.Author.Tests.{eqb-true}
 use Rattle.lines.specs.Lines.{ascii}
 use Rattle.line_words.specs.Words.{firstWord, afterWord}
 use Rattle.line_words.specs.Numbers.{numberIn}
+use Rattle.line_words.proofs.Claims.{comment-is-no-word, blank-behind-is-no-word}
 use Rattle.signal.specs.declared.Crankback.{Crankback}
 use Rattle.signal.specs.declared.Crankback.the-variants.{NoCrankback, AlternateFound, NoAlternate}
 use Rattle.signal.specs.declared.ReceivedCause.{ReceivedCause}
@@ -32,8 +34,8 @@ use Rattle.script_line.specs.declared.Parsed.{Parsed}
 use Rattle.script_line.specs.declared.Parsed.the-variants.{Told}
 use Rattle.script_line.specs.Script.{nameOf, endOf, softOf, openOf, policyOf, withNumber, connectOf, codeOf, incarnationOf, setupOf, callingCauseOf, callingOf, crankbackOf, calledCauseOf, releaseOf, calledOf, argumentsOf, keyedOf, parsedOf}
 use Rattle.script_line.specs.Claims as claim
-use Rattle.script_line.proofs.Comments.{parsed-same}
 use Rattle.script_line.proofs.Fits.{Sound, fits-of, parsed-sound}
+use Rattle.script_line.proofs.Tails.{parsed-same}
 use Rattle.script_line.proofs.Spelled.{Parted, number-first, number-after, number-reads, number-no-name}
 
 -- what follows the key, and what follows a cause, starts with a blank or is nothing
@@ -201,4 +203,15 @@ pub written-as-read : claim.WrittenAsRead
 written-as-read line key act e = let fits : Fits key act = fits-of key act (subst Sound e (parsed-sound line)) in (fits, read-back key act fits)
 
 pub comments-are-not-read : claim.CommentsAreNotRead
-comments-are-not-read line comment = parsed-same comment line
+comments-are-not-read line comment = parsed-same (35 ∷ comment) (λ rest. comment-is-no-word rest comment .0) (λ rest. inl (comment-is-no-word rest comment .1)) line
+
+pub blanks-behind-are-not-read : claim.BlanksBehindAreNotRead
+blanks-behind-are-not-read line b blank = parsed-same (b ∷ []) (λ rest. blank-behind-is-no-word rest b blank .0) (λ rest. blank-behind-is-no-word rest b blank .1) line
+
+pub listed-is-read : claim.ListedIsRead
+listed-is-read key act comment fits =
+    let text = eventText key act in
+    ap parsedOf (sym (append-assoc text (32 ∷ []) (32 ∷ 35 ∷ comment)))
+    ∙ (ap parsedOf (sym (append-assoc (text ++ (32 ∷ [])) (32 ∷ []) (35 ∷ comment)))
+    ∙ (comments-are-not-read ((text ++ (32 ∷ [])) ++ (32 ∷ [])) comment
+    ∙ (blanks-behind-are-not-read (text ++ (32 ∷ [])) 32 refl ∙ (blanks-behind-are-not-read text 32 refl ∙ line-told key act fits))))

@@ -1,7 +1,10 @@
 -- What is claimed of a line of a script, in terms that do not follow the parser. Proofs: proofs/Claims.antt. Assumes nothing.
 use Prim.Native.Nat.{ℕ}
 use mathlib.Core.Path.{_≡_}
-use mathlib.Core.List.{List, _∷_, _++_}
+use mathlib.Core.Bool.{true}
+use mathlib.Core.List.{List, [], _∷_, _++_}
+use Rattle.lines.specs.Lines.{ascii}
+use Rattle.line_words.specs.Words.{isBlank}
 use Rattle.source_table.specs.declared.Act.{Act}
 use Rattle.event_record.specs.Record.{decodedOf}
 use Rattle.event_record.specs.Encoded.{recordOf}
@@ -26,3 +29,11 @@ WrittenAsRead =
 -- A comment changes nothing: a line is read as it is without one, so that its comment need not be kept.
 abbrev pub CommentsAreNotRead : Type 0
 CommentsAreNotRead = (line comment : List ℕ) → parsedOf (line ++ (35 ∷ comment)) ≡ parsedOf line
+
+-- Nor does a blank behind all else, such as the carriage return of a line that ends in CR LF.
+abbrev pub BlanksBehindAreNotRead : Type 0
+BlanksBehindAreNotRead = (line : List ℕ) (b : ℕ) → isBlank b ≡ true → parsedOf (line ++ (b ∷ [])) ≡ parsedOf line
+
+-- So what `list` prints is read as the event that it tells, whatever count stands in its comment.
+abbrev pub ListedIsRead : Type 0
+ListedIsRead = (key : ℕ) (act : Act) (comment : List ℕ) → Fits key act → parsedOf (eventText key act ++ (ascii "  #" ++ comment)) ≡ Told key act
