@@ -10,7 +10,6 @@ use Rattle.trace_line.proofs.put_line as put_line
 use Rattle.trace_run.proofs.run as run
 use Rattle.trace_feed.proofs.serve as serve
 
-
 pub put_field-has-one-answer : {M : Type 1} → OneAnswer M put_field.ended put_field.clauses put_field.spec
 put_field-has-one-answer 𝓤 _ _ _ _ = (refl, λ _ _ _ _ _ _ _ _. facts 𝓤 (paged refl))
 

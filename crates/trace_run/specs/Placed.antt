@@ -1,7 +1,7 @@
 -- The record that an opening or event works on, found among the keys of the table, and what comes of it. proofs/Placed.antt says that this is what `ranOf` and
 -- `tableOf` say of a fit table. Assumes nothing.
 use Prim.Native.Nat.{ℕ, suc}
-use mathlib.Core.Bool.{cond}
+use mathlib.Core.Bool.{false, cond}
 use mathlib.Core.List.{List, [], _∷_, map}
 use lib.Dec.{eqb, ltb}
 use Rattle.signal.specs.declared.Answer.{Answer}
@@ -13,6 +13,7 @@ use Rattle.source.specs.Record.{emptied, openedFor}
 use Rattle.source.specs.Events.{eventOf}
 use Rattle.source_table.specs.declared.Act.{Act}
 use Rattle.source_table.specs.declared.Act.the-variants.{Opens, Meets}
+use Rattle.trace_run.specs.declared.Ran.{Ran}
 
 abbrev pub keysOf : List Call → List ℕ
 keysOf ys = map (λ c. c .key) ys
@@ -47,3 +48,7 @@ missing (Meets e) = refusedWith KeyNotOnRecord emptied
 
 abbrev pub unplacedFor : ℕ → Act → Outcome
 unplacedFor key act = cond (eqb key 0) (refusedWith KeyZero emptied) (missing act)
+
+-- what is answered of a run that a bad record ended
+abbrev pub stoppedAt : List Call → ℕ → ℕ → Ran
+stoppedAt ys at n = record { table = ys; at = at; count = n; good = false }

@@ -8,7 +8,7 @@ ghost use lib.ListN.{length};
 ghost use Rattle.lines.specs.Lines.{page, putText};
 ghost use Rattle.source_table.specs.Fit.{fitTable};
 ghost use Rattle.trace_run.specs.Run.{recordAt, chunkOf};
-ghost use Rattle.trace_run.specs.Placed.{keysOf, indexOf, placeOf, refusedWith, workedOn, unplacedFor};
+ghost use Rattle.trace_run.specs.Placed.{keysOf, indexOf, placeOf, refusedWith, workedOn, unplacedFor, stoppedAt};
 use event_record::Request;
 use signal::Answer;
 use signal::Signal;
@@ -133,6 +133,18 @@ fn unplaced(key: u32, act: Act) -> Outcome
     }
 }
 
+// A bad record ends a run.
+fn stopped(table: [Call; 64], at: usize, count: u64) -> Ran
+    ensures { λ r. ⌜ r ≡ stoppedAt table at count ⌝ }
+{
+    Ran {
+        table,
+        at,
+        count,
+        good: false,
+    }
+}
+
 // Every whole record of the input, in order, to lines at the start of the buffer; a bad one ends the run.
 pub fn run(table: [Call; 64], input: &[u8], out: &mut [u8], columns: Columns, start: u64) -> Ran
     requires { ⌜ (fitTable table ≡ true) × ((length (now input) ≤ 65536) × (start + 4096 < 2 ^ 64)) ⌝ }
@@ -149,12 +161,7 @@ pub fn run(table: [Call; 64], input: &[u8], out: &mut [u8], columns: Columns, st
         let request = decoded.request;
         let Request::Asks(act) = request else {
             at = lines::put_word(out, at, b"bad\n");
-            return Ran {
-                table: calls,
-                at,
-                count,
-                good: false,
-            };
+            return stopped(calls, at, count);
         };
         count += 1;
         let key = decoded.key;

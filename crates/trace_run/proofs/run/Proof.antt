@@ -26,10 +26,10 @@ loop-holds c =
 
 returns : tie.Need-returns Inv-loop μ-loop
 returns c =
-    let a = c .before .before .before .before .before .before .before .before .before .before .before .before .before .before .args in
-    let l = c .before .before .before .before .before .before .before .before .before .before .loop in
-    let r = ends-bad (a .columns) (a .input .now) (begin (a .table) (a .start)) (a .out .now) (l .index) (length (a .input .now) / 16) (l .calls) (l .keys) (l .count) (l .at) (l .out) (l .inv .1 .1 .1 .1 .1) (omega arith) (c .before .before .before .before .before .before .before .decode .result) (c .before .before .before .before .before .before .before .decode .ensures ∙ ap decodedOf (c .before .before .before .before .before .before .before .before .record-at .ensures)) (c .before .before .before .before .before .enum-told .given .1) _ _ (c .before .before .put-word .ensures) in
-    (r .table, (r .count, (r .good, (r .text, (r .fit, omega arith)))))
+    let a = c .before .before .before .before .before .before .before .before .before .before .before .before .before .before .before .args in
+    let l = c .before .before .before .before .before .before .before .before .before .before .before .loop in
+    let r = ends-bad (a .columns) (a .input .now) (begin (a .table) (a .start)) (a .out .now) (l .index) (length (a .input .now) / 16) (l .calls) (l .keys) (l .count) (l .at) (l .out) (l .inv .1 .1 .1 .1 .1) (omega arith) (c .before .before .before .before .before .before .before .before .decode .result) (c .before .before .before .before .before .before .before .before .decode .ensures ∙ ap decodedOf (c .before .before .before .before .before .before .before .before .before .record-at .ensures)) (c .before .before .before .before .before .before .enum-told .given .1) _ _ (c .before .before .before .put-word .ensures) in
+    rw (c .stopped .ensures) (r .table, (r .count, (r .good, (r .text, (r .fit, omega arith)))))
 
 loop-again : tie.Need-loop-again Inv-loop μ-loop
 loop-again c =
@@ -92,6 +92,7 @@ run-spec =
     (λ c. search needs)
     (λ c. search needs)
     (λ c. search needs)
+    (λ c κs. search needs)
     (λ c κs. search needs)
     (λ c. search needs)
     returns
