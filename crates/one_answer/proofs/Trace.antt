@@ -1,8 +1,9 @@
 -- The public functions of fields, trace_line, trace_run and trace_feed have one possible answer each. Assumes nothing.
-use mathlib.Core.Path.{refl}
+use mathlib.Core.Path.{_≡_, refl, ap}
 use Rattle.one_answer.specs.One.{OneAnswer}
 use contract.Monad.{factI}
-use Rattle.one_answer.proofs.Law.{same, facts, paged}
+use Rattle.one_answer.proofs.Law.{same, facts, pairs, paged}
+use Rattle.lines.specs.Lines.{Page}
 use Rattle.fields.proofs.put_field as put_field
 use Rattle.fields.proofs.put_count as put_count
 use Rattle.trace_line.proofs.put_first_line as put_first_line
@@ -27,8 +28,10 @@ pub run-has-one-answer : {M : Type 1} → OneAnswer M run.ended run.clauses run.
 run-has-one-answer 𝓤 _ _ _ _ = (
   refl,
   λ _ _ _ _ _ _ _ _. facts 𝓤 (λ p q.
-      let buffer = paged refl (p .1 .1 .1 .0) (q .1 .1 .1 .0) in
-      (λ i. record { table = same (p .0) (q .0) i; at = buffer .0 i; count = same (p .1 .0) (q .1 .0) i; good = same (p .1 .1 .0) (q .1 .1 .0) i }, buffer .1)),
+      let buffer : _≡_ {A = Page} _ _ = same (p .1 .1 .1 .0) (q .1 .1 .1 .0) in (
+        λ i. record { table = same (p .0) (q .0) i; at = buffer i .at; count = same (p .1 .0) (q .1 .0) i; good = same (p .1 .1 .0) (q .1 .1 .0) i },
+        pairs refl (pairs refl (pairs (ap (λ (x : Page). x .bytes) buffer) refl)),
+      )),
 )
 
 -- nothing is answered, and nothing lent to be written
