@@ -39,6 +39,7 @@ mod elements;
 mod event_fault;
 mod event_record;
 mod list;
+mod made_event;
 mod make_damaged;
 mod make_elements;
 mod make_tables;

@@ -5,17 +5,10 @@ use super::records::MadeTable;
 use crate::call::{Call, State};
 use crate::draw::Draw;
 use crate::event_record::EVENT_OCTETS;
-
-const OPENING: u8 = 0;
-const TRIGGER: u8 = 1;
-const PATH_FOUND: u8 = 2;
-const NO_PATH: u8 = 3;
-const CONNECT: u8 = 4;
-const SETUP: u8 = 5;
-const CALLING_RELEASE: u8 = 6;
-const CALLED_RELEASE: u8 = 7;
-const READY: u8 = 8;
-const EXPIRY: u8 = 9;
+use crate::made_event::{
+    octets, Values, CALLED_RELEASE, CALLING_RELEASE, CONNECT, EXPIRY, NO_PATH, OPENING, PATH_FOUND,
+    READY, SETUP, TRIGGER,
+};
 
 /// One event in eight is an opening.
 pub fn event(draw: &mut Draw, table: &MadeTable) -> [u8; EVENT_OCTETS] {
@@ -25,29 +18,12 @@ pub fn event(draw: &mut Draw, table: &MadeTable) -> [u8; EVENT_OCTETS] {
     let key = key(draw, table);
     let call = call_on_record(table, key);
     let kind = if draw.one_in(2) { 1 + draw.below(9) as u8 } else { kind_with_meaning(draw, call) };
-    octets(draw, kind, key, call)
+    octets::<OfTables>(draw, kind, key, call)
 }
 
 pub fn event_of_kind(draw: &mut Draw, table: &MadeTable, kind: u8) -> [u8; EVENT_OCTETS] {
     let key = if kind == OPENING { opening_key(draw, table) } else { key(draw, table) };
-    octets(draw, kind, key, call_on_record(table, key))
-}
-
-/// What this event does not read is 0 in half of the events and anything in the others.
-fn octets(draw: &mut Draw, kind: u8, key: u32, call: Call) -> [u8; EVENT_OCTETS] {
-    let unread = if draw.one_in(2) { 0 } else { draw.octet() };
-    let unread_number = u32::from_be_bytes([unread; 4]);
-    let ([first, second, third], number) = match kind {
-        OPENING => (services(draw, unread), unread_number),
-        CONNECT => ([draw.among([0, 1]), unread, unread], connection(draw, call)),
-        SETUP => ([switchover_code(draw), unread, unread], incarnation_number(draw, call)),
-        CALLING_RELEASE => (cause_and_crankback(draw, unread), unread_number),
-        CALLED_RELEASE => (cause_and_crankback(draw, unread), connection(draw, call)),
-        _ => ([unread; 3], unread_number),
-    };
-    let [k0, k1, k2, k3] = key.to_be_bytes();
-    let [n0, n1, n2, n3] = number.to_be_bytes();
-    [kind, first, second, third, k0, k1, k2, k3, n0, n1, n2, n3, unread, unread, unread, unread]
+    octets::<OfTables>(draw, kind, key, call_on_record(table, key))
 }
 
 /// An event that the state does not refuse with 106, but for its services.
@@ -110,43 +86,65 @@ fn any_key(draw: &mut Draw, table: &MadeTable) -> u32 {
     table.keys.get(draw.below(table.keys.len())).copied().unwrap_or(0)
 }
 
-/// No services in a third of the openings, else any.
-fn services(draw: &mut Draw, unread: u8) -> [u8; 3] {
-    if draw.one_in(3) {
-        [0, unread, unread]
-    } else {
-        [1, draw.among([0, 1]), draw.among([0, 1, 2])]
+struct OfTables;
+
+impl Values for OfTables {
+    /// No services in a third of the openings, else any.
+    fn opening(draw: &mut Draw, unread: u8) -> [u8; 3] {
+        if draw.one_in(3) {
+            [0, unread, unread]
+        } else {
+            [1, draw.among([0, 1]), draw.among([0, 1, 2])]
+        }
     }
-}
 
-fn switchover_code(draw: &mut Draw) -> u8 {
-    let any = draw.octet();
-    draw.among([1, 1, 1, 1, 1, 1, 0, 2, 255, any])
-}
+    fn switchover_code(draw: &mut Draw) -> u8 {
+        let any = draw.octet();
+        draw.among([1, 1, 1, 1, 1, 1, 0, 2, 255, any])
+    }
 
-/// Below, equal to or above the number on record, or any.
-fn incarnation_number(draw: &mut Draw, call: Call) -> u32 {
-    let any = draw.word();
-    let above = call.remote.saturating_add(1);
-    draw.among([call.remote, call.remote.wrapping_sub(1), above, above, above, u32::MAX, 0, any])
-}
+    /// Below, equal to or above the number on record, or any.
+    fn incarnation_number(draw: &mut Draw, call: Call) -> u32 {
+        let any = draw.word();
+        let above = call.remote.saturating_add(1);
+        draw.among([
+            call.remote,
+            call.remote.wrapping_sub(1),
+            above,
+            above,
+            above,
+            u32::MAX,
+            0,
+            any,
+        ])
+    }
 
-/// A connection held, one not held, 0, or one not yet given.
-fn connection(draw: &mut Draw, call: Call) -> u32 {
-    let incumbent = call.state.incumbent().unwrap_or(0);
-    let rerouting = call.state.rerouting().unwrap_or(incumbent);
-    let next = call.last.saturating_add(1);
-    let small = draw.number_to(12);
-    let named = draw.among([
-        incumbent, incumbent, incumbent, rerouting, rerouting, rerouting, call.last, next, small, 0,
-    ]);
-    u32::from(named)
-}
+    /// A connection held, one not held, 0, or one not yet given.
+    fn connection(draw: &mut Draw, call: Call) -> u32 {
+        let incumbent = call.state.incumbent().unwrap_or(0);
+        let rerouting = call.state.rerouting().unwrap_or(incumbent);
+        let next = call.last.saturating_add(1);
+        let small = draw.number_to(12);
+        let named = draw.among([
+            incumbent, incumbent, incumbent, rerouting, rerouting, rerouting, call.last, next,
+            small, 0,
+        ]);
+        u32::from(named)
+    }
 
-fn cause_and_crankback(draw: &mut Draw, unread: u8) -> [u8; 3] {
-    let any = draw.octet();
-    let crankback = draw.among([0, 1, 2]);
-    let [present, cause] =
-        draw.among([[0, unread], [0, unread], [1, 0], [1, 1], [1, 2], [1, 4], [1, 255], [1, any]]);
-    [present, cause, crankback]
+    fn cause_and_crankback(draw: &mut Draw, unread: u8) -> [u8; 3] {
+        let any = draw.octet();
+        let crankback = draw.among([0, 1, 2]);
+        let [present, cause] = draw.among([
+            [0, unread],
+            [0, unread],
+            [1, 0],
+            [1, 1],
+            [1, 2],
+            [1, 4],
+            [1, 255],
+            [1, any],
+        ]);
+        [present, cause, crankback]
+    }
 }

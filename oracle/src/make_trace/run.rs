@@ -4,11 +4,15 @@
 //! again. A crowd of others comes until the table refuses one, and leaves. One call is worn until
 //! its connection numbers are spent.
 
-use super::values::{opening, values};
+use super::values::{opening, OfRuns};
 use super::worn::{self, WornCall};
 use crate::call::{Call, State};
 use crate::draw::Draw;
 use crate::event_record::{decode, encode, EventRecord, EVENT_OCTETS};
+use crate::made_event::{
+    octets, CALLED_RELEASE, CALLING_RELEASE, CONNECT, EXPIRY, NO_PATH, OPENING, PATH_FOUND, READY,
+    SETUP, TRIGGER,
+};
 use crate::table::Request;
 use crate::trace_table::{TraceTable, RECORD_COUNT};
 use crate::vocabulary::Event;
@@ -16,18 +20,6 @@ use crate::vocabulary::Event;
 /// Some of them alike in their low octets.
 pub const FEW_KEYS: [u32; 7] = [1, 2, 3, 7, 257, 16_777_217, u32::MAX];
 const FIRST_OF_CROWD: u32 = 1_000;
-
-/// The kinds of an event, by their numbers (01, "The trace").
-pub const OPENING: u8 = 0;
-pub const TRIGGER: u8 = 1;
-pub const PATH_FOUND: u8 = 2;
-pub const NO_PATH: u8 = 3;
-pub const CONNECT: u8 = 4;
-pub const SETUP: u8 = 5;
-pub const CALLING_RELEASE: u8 = 6;
-pub const CALLED_RELEASE: u8 = 7;
-pub const READY: u8 = 8;
-pub const EXPIRY: u8 = 9;
 
 pub struct Run {
     pub draw: Draw,
@@ -84,7 +76,7 @@ impl Run {
         let call = self.table.call(worn::KEY);
         if call.last == u16::MAX && self.draw.one_in(8) {
             let kind = kind(&mut self.draw, call);
-            let octets = values(&mut self.draw, kind, worn::KEY, call);
+            let octets = octets::<OfRuns>(&mut self.draw, kind, worn::KEY, call);
             if !ends(call, &octets) || self.draw.one_in(8) {
                 return octets;
             }
@@ -102,7 +94,7 @@ impl Run {
             1 => (kind.max(TRIGGER), self.draw.word()),
             _ => (kind, key),
         };
-        values(&mut self.draw, kind, key, call)
+        octets::<OfRuns>(&mut self.draw, kind, key, call)
     }
 }
 

@@ -1,27 +1,9 @@
-//! The values of an event, from the call that it meets, in the 16 octets of 01, "The trace".
+//! The values of an event, from the call that it meets.
 
-use super::run::{CALLED_RELEASE, CALLING_RELEASE, CONNECT, OPENING, SETUP};
 use crate::call::{Call, Services, Soft};
 use crate::draw::Draw;
-use crate::event_record::EVENT_OCTETS;
+use crate::made_event::Values;
 use crate::vocabulary::{Event, SwitchoverCode};
-
-/// What this event does not read is 0 in half of the events and anything in the others.
-pub fn values(draw: &mut Draw, kind: u8, key: u32, call: Call) -> [u8; EVENT_OCTETS] {
-    let unread = if draw.one_in(2) { 0 } else { draw.octet() };
-    let unread_number = u32::from_be_bytes([unread; 4]);
-    let ([first, second, third], number) = match kind {
-        OPENING => (opening_octets(draw, unread), unread_number),
-        CONNECT => ([draw.among([0, 1]), unread, unread], connection(draw, call)),
-        SETUP => ([switchover_code(draw), unread, unread], incarnation_number(draw, call)),
-        CALLING_RELEASE => (cause_and_crankback(draw, unread), unread_number),
-        CALLED_RELEASE => (cause_and_crankback(draw, unread), connection(draw, call)),
-        _ => ([unread; 3], unread_number),
-    };
-    let [k0, k1, k2, k3] = key.to_be_bytes();
-    let [n0, n1, n2, n3] = number.to_be_bytes();
-    [kind, first, second, third, k0, k1, k2, k3, n0, n1, n2, n3, unread, unread, unread, unread]
-}
 
 /// Default services in one opening of eight; else mostly hard on and symmetric soft, with which
 /// every event has a meaning somewhere.
@@ -48,58 +30,62 @@ pub fn newer_setup(call: Call) -> Event {
     Event::Setup { switchover: SwitchoverCode::CLEARING, number }
 }
 
-fn opening_octets(draw: &mut Draw, unread: u8) -> [u8; 3] {
-    match opening(draw) {
-        None => [0, unread, unread],
-        Some(Services { hard, soft }) => [1, u8::from(hard), soft.number()],
+pub struct OfRuns;
+
+impl Values for OfRuns {
+    fn opening(draw: &mut Draw, unread: u8) -> [u8; 3] {
+        match opening(draw) {
+            None => [0, unread, unread],
+            Some(Services { hard, soft }) => [1, u8::from(hard), soft.number()],
+        }
     }
-}
 
-fn switchover_code(draw: &mut Draw) -> u8 {
-    let any = draw.octet();
-    if draw.one_in(8) {
-        draw.among([0, 0, 2, 255, any])
-    } else {
-        1
+    fn switchover_code(draw: &mut Draw) -> u8 {
+        let any = draw.octet();
+        if draw.one_in(8) {
+            draw.among([0, 0, 2, 255, any])
+        } else {
+            1
+        }
     }
-}
 
-/// Mostly newer by one; sometimes late, and seldom far ahead, since every later one is late then.
-fn incarnation_number(draw: &mut Draw, call: Call) -> u32 {
-    let above = call.remote.saturating_add(1);
-    let far = draw.word();
-    match draw.below(16) {
-        0..=11 => above,
-        12..=13 => call.remote,
-        14 => call.remote.saturating_sub(1),
-        _ => draw.among([above.saturating_add(1), 0, far, u32::MAX]),
+    /// Mostly newer by one; sometimes late, and seldom far ahead, since every later one is late then.
+    fn incarnation_number(draw: &mut Draw, call: Call) -> u32 {
+        let above = call.remote.saturating_add(1);
+        let far = draw.word();
+        match draw.below(16) {
+            0..=11 => above,
+            12..=13 => call.remote,
+            14 => call.remote.saturating_sub(1),
+            _ => draw.among([above.saturating_add(1), 0, far, u32::MAX]),
+        }
     }
-}
 
-/// Mostly one that the call holds; else the last given, the next, a small one, 0 or the greatest.
-fn connection(draw: &mut Draw, call: Call) -> u32 {
-    let incumbent = call.state.incumbent().unwrap_or(0);
-    let rerouting = call.state.rerouting().unwrap_or(incumbent);
-    let small = draw.number_to(12);
-    let next = call.last.saturating_add(1);
-    let other = draw.among([call.last, next, small, 0, u16::MAX]);
-    let held = draw.among([incumbent, rerouting, rerouting]);
-    u32::from(if draw.one_in(10) { other } else { held })
-}
+    /// Mostly one that the call holds; else the last given, the next, a small one, 0 or the greatest.
+    fn connection(draw: &mut Draw, call: Call) -> u32 {
+        let incumbent = call.state.incumbent().unwrap_or(0);
+        let rerouting = call.state.rerouting().unwrap_or(incumbent);
+        let small = draw.number_to(12);
+        let next = call.last.saturating_add(1);
+        let other = draw.among([call.last, next, small, 0, u16::MAX]);
+        let held = draw.among([incumbent, rerouting, rerouting]);
+        u32::from(if draw.one_in(10) { other } else { held })
+    }
 
-fn cause_and_crankback(draw: &mut Draw, unread: u8) -> [u8; 3] {
-    let any = draw.octet();
-    let crankback = draw.among([0, 1, 2]);
-    let [present, cause] = draw.among([
-        [0, unread],
-        [0, unread],
-        [0, unread],
-        [1, 0],
-        [1, 1],
-        [1, 2],
-        [1, 4],
-        [1, 255],
-        [1, any],
-    ]);
-    [present, cause, crankback]
+    fn cause_and_crankback(draw: &mut Draw, unread: u8) -> [u8; 3] {
+        let any = draw.octet();
+        let crankback = draw.among([0, 1, 2]);
+        let [present, cause] = draw.among([
+            [0, unread],
+            [0, unread],
+            [0, unread],
+            [1, 0],
+            [1, 1],
+            [1, 2],
+            [1, 4],
+            [1, 255],
+            [1, any],
+        ]);
+        [present, cause, crankback]
+    }
 }
