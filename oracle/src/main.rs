@@ -17,6 +17,7 @@
 //! | `cases` | cases of any form, read one by one |
 //! | `tables` | cases over a whole table, read and printed |
 //! | `draw`, `maker` | the numbers drawn from a seed, and cases of any form made from them |
+//! | `made_event` | the octets of an event that is made |
 //! | `make_tables` | cases over a whole table, made |
 //! | `make_trace` | event records of one run, made |
 //! | `make_damaged` | short runs that are damaged, made |
