@@ -3,10 +3,11 @@ use Prim.Native.Nat.{ℕ, _+_, _*_, _/_, _%_, _<_}
 use native.Mathlib.Nat.{div-div-eq-div-mul}
 use native.Mathlib.Omega.{arith}
 use mathlib.Core.Path.{_≡_, refl, sym, _∙_, ap}
+use mathlib.Core.List.{_∷_}
 use mathlib.Core.Bool.{Bool, true, false, cond}
 use mathlib.Core.Logic.{inl, inr}
-use lib.Dec.{ltb}
-use borrow.Author.Tests.{lt-ltb, le-ltb}
+use lib.Dec.{eqb, ltb}
+use borrow.Author.Tests.{lt-ltb, le-ltb, ne-eqb}
 use Rattle.signal.specs.Numbers.{softNumber, crankbackNumber}
 use Rattle.signal.specs.declared.Crankback.{Crankback}
 use Rattle.signal.specs.declared.Crankback.the-variants.{NoCrankback, AlternateFound, NoAlternate}
@@ -22,8 +23,9 @@ use Rattle.source_table.specs.declared.Act.{Act}
 use Rattle.source_table.specs.declared.Act.the-variants.{Opens, Meets}
 use Rattle.event_record.specs.Record.{octet, numberOf, askedOf, openOf, connectOf, callingOf, calledOf}
 use Rattle.event_record.specs.Encoded.{flagNumber, presentNumber, causeNumber, openValues, eventValues, actValues}
-use Rattle.event_record.specs.Claims.{EventFits, ActFits}
+use Rattle.event_record.specs.Claims.{highestFirst, EventFits, ActFits}
 use Rattle.event_record.specs.Claims as claim
+use Rattle.event_record.specs.declared.Request.{Request}
 use Rattle.event_record.specs.declared.Request.the-variants.{Bad, Asks}
 
 -- a connection number above 65,535 is bad, whatever stands in the other octets
@@ -121,3 +123,100 @@ read-back key act fits =
     let v = actValues act in
     let request = ap (λ n. askedOf (v .kind) (v .first) (v .second) (v .third) n) (read-back-number (v .number) (number-fits act (fits .1))) ∙ act-back act (fits .1) in
     λ i. record { key = read-back-number key (fits .0) i; request = request i }
+
+-- what the octets mean: two octets are the connection that they spell
+spelled-out : (a b c d : ℕ) → numberOf a b c d ≡ highestFirst a b c d
+spelled-out a b c d = omega arith
+
+in-two-octets : (a b : ℕ) → numberOf 0 0 a b ≡ a * 256 + b
+in-two-octets a b = omega arith
+
+pub key-means : claim.KeyMeans
+key-means kind p q r a b c d more = spelled-out a b c d
+
+pub only-keys-mean : claim.OnlyKeysMean
+only-keys-mean p q r more = (refl, (refl, (refl, (refl, refl))))
+
+pub open-means : claim.OpenMeans
+open-means q r more = (refl, (refl, (refl, (refl, (refl, (refl, refl))))))
+
+-- a connection below 65,536, spelled by two octets
+connection-is : (f : ℕ → Request) (a b : ℕ) (r : Request) → f (a * 256 + b) ≡ r → f (numberOf 0 0 a b) ≡ r
+connection-is f a b r e = ap f (in-two-octets a b) ∙ e
+
+fits-two : (a b : ℕ) → a < 256 → b < 256 → ltb 65535 (a * 256 + b) ≡ false
+fits-two a b low-a low-b = le-ltb 65535 (a * 256 + b) (omega arith)
+
+pub connect-means : claim.ConnectMeans
+connect-means q r s t u v a b more low-a low-b =
+    let fits = fits-two a b low-a low-b in
+    (connection-is (connectOf 0) a b _ (rw fits), connection-is (connectOf 1) a b _ (rw fits))
+
+pub setup-means : claim.SetupMeans
+setup-means code q r s t u v a b c d more = ap (λ (n : ℕ). Asks (Meets (Setup (record { code = code }) n))) (spelled-out a b c d)
+
+pub calling-means : claim.CallingMeans
+calling-means cause more = (refl, (refl, (refl, (refl, (refl, refl)))))
+
+pub called-means : claim.CalledMeans
+called-means cause s t u v a b more low-a low-b =
+    let fits = fits-two a b low-a low-b in (
+      connection-is (calledOf 0 cause 0) a b _ (rw fits),
+      (
+        connection-is (calledOf 0 cause 1) a b _ (rw fits),
+        (
+          connection-is (calledOf 0 cause 2) a b _ (rw fits),
+          (
+            connection-is (calledOf 1 cause 0) a b _ (rw fits),
+            (connection-is (calledOf 1 cause 1) a b _ (rw fits), connection-is (calledOf 1 cause 2) a b _ (rw fits)),
+          ),
+        ),
+      ),
+    )
+
+-- a kind above 9 is none of those that are named
+other : (n k : ℕ) → k < n → eqb n k ≡ false
+other n k h = ne-eqb n k (omega arith)
+
+kind-above : (n p q r m : ℕ) → 9 < n → askedOf n p q r m ≡ Bad
+kind-above n p q r m h =
+    simp (
+      other n 0 (omega arith),
+      other n 1 (omega arith),
+      other n 2 (omega arith),
+      other n 3 (omega arith),
+      other n 4 (omega arith),
+      other n 5 (omega arith),
+      other n 6 (omega arith),
+      other n 7 (omega arith),
+      other n 8 (omega arith),
+      other n 9 (omega arith),
+    )
+
+pub not-named-is-bad : claim.NotNamedIsBad
+not-named-is-bad n p q r more =
+    let os = n ∷ p ∷ q ∷ r ∷ more in (
+      kind-above n p q r (numberOf (octet os 8) (octet os 9) (octet os 10) (octet os 11)),
+      (
+        λ h. simp (other n 0 (omega arith), lt-ltb 1 n h),
+        (
+          λ h. rw (lt-ltb 1 n h),
+          (
+            λ h. rw (lt-ltb 2 n h) (bad-either-way (ltb 1 q)),
+            (
+              λ h. rw (lt-ltb 1 n h),
+              (
+                λ h. rw (lt-ltb 1 n h),
+                (
+                  λ h. rw (lt-ltb 2 n h) (bad-either-way (ltb 1 p)),
+                  (λ h. rw (lt-ltb 1 n h), λ h. rw (lt-ltb 2 n h) (bad-either-way (ltb 1 p))),
+                ),
+              ),
+            ),
+          ),
+        ),
+      ),
+    )
+
+pub octets-in-their-order : claim.OctetsInTheirOrder
+octets-in-their-order = (refl, refl)

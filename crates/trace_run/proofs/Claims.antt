@@ -24,6 +24,7 @@ use Rattle.event_record.specs.Record.{decodedOf}
 use Rattle.trace_line.specs.declared.Columns.{Columns}
 use Rattle.trace_line.specs.Line.{firstLine, numbersText, restText, lineText}
 use Rattle.trace_run.specs.Run.{Past, begin, after, onRequest, onDecoded, recordAt, shownOf, badText}
+use Rattle.trace_run.specs.Story.{story}
 use Rattle.trace_run.specs.Claims as claim
 use Rattle.trace_run.specs.Claims.{Asked, Step, checkedRun, uncheckedRun, printedOf}
 use Rattle.trace_run.proofs.Empty.{empty-is-fit}
@@ -32,6 +33,10 @@ use Rattle.trace_run.proofs.Steps.{still}
 pub five-lines : claim.FiveLines
 unfolding printedOf firstLine lineText numbersText restText numberText spelled onRequest recordAt shownOf readFrom has distinctOf
 five-lines = refl
+
+pub story-is-printed : claim.StoryIsPrinted
+unfolding story printedOf firstLine lineText numbersText restText numberText spelled onRequest recordAt shownOf readFrom has distinctOf
+story-is-printed = refl
 
 abbrev stepBy : Ran → List Call → Step
 stepBy d ys = record { answer = answerNumber (d .done .answer); signals = d .done .signals; table = ys }

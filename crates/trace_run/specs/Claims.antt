@@ -14,9 +14,11 @@ use Rattle.source_table.specs.declared.Act.{Act}
 use Rattle.source_table.specs.Table.{ranOf, tableOf, ranFitOf, tableFitOf}
 use Rattle.source_table.specs.Claims.{FitTable}
 use Rattle.trace_line.specs.declared.Columns.{Columns}
-use Rattle.trace_line.specs.declared.Columns.the-variants.{Trace}
+use Rattle.trace_line.specs.declared.Columns.the-variants.{Trace, Watch}
 use Rattle.trace_line.specs.Line.{firstLine}
+use Rattle.trace_line.specs.Claims.{line}
 use Rattle.trace_run.specs.Run.{Past, begin, after, chunkOf, badText}
+use Rattle.trace_run.specs.Story.{octetsOf, linesOf, story}
 
 -- a run over all of the input, from 64 empty records
 abbrev pub runOf : Columns → List ℕ → Past
@@ -35,16 +37,16 @@ firstFour =
     ∷ 5 ∷ 1 ∷ 0 ∷ 0 ∷ 0 ∷ 0 ∷ 0 ∷ 7 ∷ 0 ∷ 0 ∷ 0 ∷ 3 ∷ 0 ∷ 0 ∷ 0 ∷ 0
     ∷ []
 
--- a line of its own
-abbrev pub line : List ℕ → List ℕ
-line text = text ++ (10 ∷ [])
-
 -- 01, "The trace": B1 to B4 print exactly five lines.
 abbrev pub FiveLines : Type 0
 FiveLines =
     printedOf Trace firstFour
     ≡ line (ascii "line answer state incumbent rerouting number")
     ++ (line (ascii "1 0 1 1 0 0") ++ (line (ascii "2 0 6 1 2 3") ++ (line (ascii "3 0 7 1 2 3") ++ line (ascii "4 0 7 1 2 3"))))
+
+-- 01, "The trace", from octets to bytes: of the story the watch prints its first line, a line for each record, and `bad`.
+abbrev pub StoryIsPrinted : Type 0
+StoryIsPrinted = printedOf Watch (octetsOf story) ≡ line (ascii "line answer state incumbent rerouting number last signals") ++ linesOf story
 
 -- what an opening or event leaves: the answer's number, the signals, and the whole table
 pub record Step : Type 0 where

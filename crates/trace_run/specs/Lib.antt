@@ -1,3 +1,4 @@
 pub mod Run
 pub mod Placed
+pub mod Story
 pub mod Claims
