@@ -130,7 +130,7 @@ at-most-one x last now m (n ∷ []) own few one′ grown =
 at-most-one x last now m (n ∷ (k ∷ ns)) own few one′ grown = absurd (omega arith)
 
 asked-for : (c : Call) (e : Event) → isNull (c .state) ≡ false → (x : ℕ) → 1 ≤ x →
-    count x (named (ofKind SetupRequest (eventOf c e .signals))) ≤ count x (givenBy source c (eventOf c e .call))
+    count x (source .requested (eventOf c e .signals)) ≤ count x (givenBy source c (eventOf c e .call))
 asked-for c e live x positive = by-state (isNull (eventOf c e .call .state)) refl
   where
     sent : List Signal
@@ -139,10 +139,11 @@ asked-for c e live x positive = by-state (isNull (eventOf c e .call .state)) ref
     own : AllAre (eventOf c e .call .last) (named sent)
     own = signals-name-their-own c e _ refl .1 .1 .1
 
-    by-state : (b : Bool) → isNull (eventOf c e .call .state) ≡ b → count x (named sent) ≤ count x (givenBy source c (eventOf c e .call))
+    by-state : (b : Bool) → isNull (eventOf c e .call .state) ≡ b → count x (source .requested (eventOf c e .signals)) ≤ count x (givenBy source c (eventOf c e .call))
     by-state false h =
         let last = last-by-one c e _ refl h in
-        at-most-one x (c .last) (eventOf c e .call .last) _ (named sent) own (omega (arith, length-named sent)) (last .1) (last .0)
+        let few = at-most-one x (c .last) (eventOf c e .call .last) _ (named sent) own (omega (arith, length-named sent)) (last .1) (last .0) in
+        omega arith
     by-state true h =
         let none = never-nought x (named sent) positive (subst (λ n. AllAre n (named sent)) (ap (λ d. d .last) (ended-is-emptied c e _ refl live h)) own) in
         omega arith
@@ -162,7 +163,7 @@ event-law ys k e done =
       balances = λ x.
           balanced c e (here .1) x ∙ ap (λ ss. count x (heldIn (eventOf c e .call .state)) + count x (reported e ++ endedSent ss)) (sym (changed .1));
       asks = λ x positive.
-          subst (λ ss. count x (named (ofKind SetupRequest ss)) ≤ count x (givenBy source c (eventOf c e .call))) (sym (changed .1)) (asked-for c e live x positive);
+          subst (λ ss. count x (source .requested ss) ≤ count x (givenBy source c (eventOf c e .call))) (sym (changed .1)) (asked-for c e live x positive);
     }
 
 -- ---- all of them

@@ -1,4 +1,5 @@
 pub mod Laws
 pub mod Rejected
 pub mod Claims
+pub mod Inserted
 pub mod ShutOut

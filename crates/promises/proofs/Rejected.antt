@@ -1,12 +1,13 @@
--- Setups that are turned away, over any fit table, and that every table of a run is fit: what the promises on insertions stand on. Assumes nothing.
-use Prim.Native.Nat.{ℕ, zero, suc, _≤_}
+-- Setups that are turned away over any fit table, and that a run starts from one or is refused all along: what demand 3 asks to be shown of insertions. Assumes nothing.
+use Prim.Native.Nat.{ℕ, zero, suc, _≤_, _<_}
 use native.Mathlib.Omega.{arith}
 use mathlib.Core.Path.{_≡_, refl, sym, _∙_, ap, subst}
 use mathlib.Core.Bool.{Bool, true, false, not, cond, true≢false, false≢true}
 use mathlib.Core.List.{List, [], _∷_}
-use lib.Dec.{eqb}
+use mathlib.Core.Logic.{_⊎_, inl, inr}
+use lib.Dec.{eqb, ltb}
 use lib.ListN.{length, getD, length-replicate}
-use borrow.Author.Tests.{ne-eqb, le-leb}
+use borrow.Author.Tests.{ne-eqb, le-leb, ltb-true, ltb-false}
 use Rattle.signal.specs.declared.Signal.{Signal}
 use Rattle.signal.specs.declared.Soft.{Soft}
 use Rattle.signal.specs.declared.Soft.the-variants.{NoSoft, Asymmetric, Symmetric}
@@ -25,19 +26,21 @@ use Rattle.source.specs.Record.{emptied}
 use Rattle.source.proofs.Claims.{rejected-setup-leaves-record}
 use Rattle.source_table.specs.declared.Act.the-variants.{Meets}
 use Rattle.source_table.specs.Table.{ranOf, tableOf}
+use Rattle.source_table.specs.Fit.{fitTable}
 use Rattle.source_table.specs.Claims as table
 use Rattle.source_table.proofs.Fit.{fit-exactly}
 use Rattle.source_table.proofs.Stored.{event-changes-its-call}
-use Rattle.source_table.proofs.Claims.{answers-in-order}
+use Rattle.source_table.proofs.Claims.{answers-in-order, unfit-is-refused}
 use Rattle.source_table.proofs.Kept.{stays-fit}
 use Rattle.lent.specs.Keyed.{onRecord}
 use Rattle.runs.specs.Run.{meets, Asked, emptyTable, callOf}
-use Rattle.runs.specs.Late.{SetupFor, Late, Unsupported, Rejected}
-use Rattle.runs.proofs.Late.{turned-away-is-harmless}
+use Rattle.runs.specs.Late.{SetupFor, Late, Unsupported, LateOrUnsupported, Rejected}
+use Rattle.runs.specs.Demand.{TurnsAway}
+use Rattle.runs.proofs.Demand.{nothing-inserted-where-refused}
 use Rattle.promises.specs.Source.{source, numbering, ours, actOf, isSymmetric, setupNumber, asksSupported}
 use Rattle.promises.specs.Claims.{Table}
 use Rattle.promises.specs.Claims as claim
-use Rattle.promises.proofs.Laws.{live-of}
+use Rattle.promises.proofs.Laws.{live-of, lawful}
 
 -- ---- an empty table is fit, and every table of a run
 no-record : (n i : ℕ) → getD (emptyTable source n) i emptied ≡ emptied
@@ -116,6 +119,21 @@ is-symmetric Symmetric h = refl
 no-number : {n : ℕ} → _≡_ {A = List ℕ} [] (n ∷ []) → ⊥
 no-number e = let one′ : _≡_ {A = ℕ} 0 1 = ap length e in omega arith
 
+-- so what is inserted is a setup with a code and that number
+abbrev IsSetup : Event → ℕ → Type 0
+IsSetup e n = (code : Switchover) × (e ≡ Setup code n)
+
+is-setup : (e : Event) (n : ℕ) → setupNumber e ≡ n ∷ [] → IsSetup e n
+is-setup (Setup code number) n numbered = (code, ap (Setup code) (ap (λ (ns : List ℕ). getD ns 0 0) numbered))
+is-setup Trigger n numbered = absurd (no-number numbered)
+is-setup PathFound n numbered = absurd (no-number numbered)
+is-setup NoPath n numbered = absurd (no-number numbered)
+is-setup (Connect k agreed) n numbered = absurd (no-number numbered)
+is-setup (FromCalling cause) n numbered = absurd (no-number numbered)
+is-setup (FromCalled k cause crankback) n numbered = absurd (no-number numbered)
+is-setup Ready n numbered = absurd (no-number numbered)
+is-setup Expiry n numbered = absurd (no-number numbered)
+
 setup-rejected : (ys : Table) (a : Asked source) (code : Switchover) (number : ℕ) → table.FitTable ys → (a .key ≡ 0 → ⊥) → onRecord (source .key) (a .key) ys ≡ true →
     rejectionWanted (callOf source (a .key) ys .soft) (callOf source (a .key) ys .remote) (callOf source (a .key) ys .state) (Setup code number) ≡ reject code ∷ [] →
     a .does ≡ meets (Setup code number) → Rejected source numbering ys a (ours ys a)
@@ -129,56 +147,57 @@ setup-rejected ys a code number fit named here wanted is =
       table = subst (λ d. tableOf ys (a .key) (actOf d) ≡ ys) (sym is) (t .1 .1);
     }
 
--- a late setup, and one that asks for another switchover
-late-by : (ys : Table) (a : Asked source) (e : Event) (n : ℕ) → table.FitTable ys → SetupFor source numbering ys a e n → n ≤ callOf source (a .key) ys .remote → Rejected source numbering ys a (ours ys a)
-late-by ys a e n fit setup late = by-event e (setup .numbered) (setup .is)
+-- a setup over a fit table whose rejection is wanted, with whatever code it has
+rejected-by : (ys : Table) (a : Asked source) (e : Event) (n : ℕ) → table.FitTable ys → SetupFor source numbering ys a e n →
+    ((code : Switchover) → e ≡ Setup code n → callOf source (a .key) ys .soft ≡ Symmetric → isNull (callOf source (a .key) ys .state) ≡ false →
+    rejectionWanted (callOf source (a .key) ys .soft) (callOf source (a .key) ys .remote) (callOf source (a .key) ys .state) (Setup code n) ≡ reject code ∷ []) →
+    Rejected source numbering ys a (ours ys a)
+rejected-by ys a e n fit setup wanted =
+    let is = is-setup e n (setup .numbered) in
+    let c = callOf source (a .key) ys in
+    setup-rejected ys a (is .0) n fit (setup .named) (setup .known)
+    (wanted (is .0) (is .1) (is-symmetric (c .soft) (setup .taken)) (live-of (a .key) ys (setup .named) (fit-exactly ys .1 fit) (setup .known)))
+    (setup .is ∙ ap meets (is .1))
+
+late-rejected : (ys : Table) (a : Asked source) → table.FitTable ys → Late source numbering ys a → Rejected source numbering ys a (ours ys a)
+late-rejected ys a fit (e, (n, (setup, late))) =
+    rejected-by ys a e n fit setup (λ code is symmetric live. wanted-late (callOf source (a .key) ys) code n symmetric live late)
+
+unsupported-rejected : (ys : Table) (a : Asked source) → table.FitTable ys → Unsupported source numbering ys a → Rejected source numbering ys a (ours ys a)
+unsupported-rejected ys a fit (e, (n, (setup, other))) =
+    rejected-by ys a e n fit setup
+    (λ code is symmetric live. wanted-unsupported (callOf source (a .key) ys) code n symmetric live (sym (ap asksSupported is) ∙ other))
+
+-- ---- what demand 3 asks to be shown (runs, specs/Demand)
+-- over too many records every request is refused with 101
+pub too-many-are-refused : claim.TooManyAreRefused
+too-many-are-refused n many a = unfit-is-refused (emptyTable source n) (a .key) (actOf (a .does)) (by-test (fitTable (emptyTable source n)) refl)
   where
-    c : Call
-    c = callOf source (a .key) ys
+    by-test : (b : Bool) → fitTable (emptyTable source n) ≡ b → fitTable (emptyTable source n) ≡ false
+    by-test true fit =
+        let few : n ≤ 1024 = subst (λ m. m ≤ 1024) (length-replicate n emptied) (fit-exactly (emptyTable source n) .0 fit .few) in
+        absurd (omega arith)
+    by-test false unfit = unfit
 
-    live : isNull (c .state) ≡ false
-    live = live-of (a .key) ys (setup .named) (fit-exactly ys .1 fit) (setup .known)
+refused-throughout : (n : ℕ) → 1024 < n → (a : Asked source) → ours (emptyTable source n) a .answer ≡ 0 → ⊥
+refused-throughout n many a done = let refused : ours (emptyTable source n) a .answer ≡ 101 = too-many-are-refused n many a in omega arith
 
-    by-event : (e : Event) → setupNumber e ≡ n ∷ [] → a .does ≡ meets e → Rejected source numbering ys a (ours ys a)
-    by-event (Setup code number) numbered is =
-        let same : number ≡ n = ap (λ (ns : List ℕ). getD ns 0 0) numbered in
-        setup-rejected ys a code number fit (setup .named) (setup .known) (wanted-late c code number (is-symmetric (c .soft) (setup .taken)) live (omega arith)) is
-    by-event Trigger numbered is = absurd (no-number numbered)
-    by-event PathFound numbered is = absurd (no-number numbered)
-    by-event NoPath numbered is = absurd (no-number numbered)
-    by-event (Connect k agreed) numbered is = absurd (no-number numbered)
-    by-event (FromCalling cause) numbered is = absurd (no-number numbered)
-    by-event (FromCalled k cause crankback) numbered is = absurd (no-number numbered)
-    by-event Ready numbered is = absurd (no-number numbered)
-    by-event Expiry numbered is = absurd (no-number numbered)
+pub too-many-take-none : claim.TooManyTakeNone
+too-many-take-none n many items at = nothing-inserted-where-refused source numbering ours refl (lawful .refused) n (refused-throughout n many) items at
 
-unsupported-by : (ys : Table) (a : Asked source) (e : Event) (n : ℕ) → table.FitTable ys → SetupFor source numbering ys a e n → asksSupported e ≡ false → Rejected source numbering ys a (ours ys a)
-unsupported-by ys a e n fit setup other = by-event e other (setup .is)
+pub turns-away : TurnsAway source numbering ours
+turns-away =
+    record {
+      Fit = table.FitTable;
+      begins = λ n. by-length n (ltb 1024 n) refl;
+      stays = λ ys a. stays-fit ys (a .key) (actOf (a .does));
+      rejects = rejects;
+    }
   where
-    c : Call
-    c = callOf source (a .key) ys
+    by-length : (n : ℕ) (b : Bool) → ltb 1024 n ≡ b → table.FitTable (emptyTable source n) ⊎ ((a : Asked source) → ours (emptyTable source n) a .answer ≡ 0 → ⊥)
+    by-length n false t = inl (empty-fit n (ltb-false 1024 n t))
+    by-length n true t = inr (refused-throughout n (ltb-true 1024 n t))
 
-    live : isNull (c .state) ≡ false
-    live = live-of (a .key) ys (setup .named) (fit-exactly ys .1 fit) (setup .known)
-
-    by-event : (e : Event) → asksSupported e ≡ false → a .does ≡ meets e → Rejected source numbering ys a (ours ys a)
-    by-event (Setup code number) h is = setup-rejected ys a code number fit (setup .named) (setup .known) (wanted-unsupported c code number (is-symmetric (c .soft) (setup .taken)) live h) is
-    by-event Trigger h is = absurd (true≢false h)
-    by-event PathFound h is = absurd (true≢false h)
-    by-event NoPath h is = absurd (true≢false h)
-    by-event (Connect k agreed) h is = absurd (true≢false h)
-    by-event (FromCalling cause) h is = absurd (true≢false h)
-    by-event (FromCalled k cause crankback) h is = absurd (true≢false h)
-    by-event Ready h is = absurd (true≢false h)
-    by-event Expiry h is = absurd (true≢false h)
-
-pub late-rejected : (ys : Table) (a : Asked source) → table.FitTable ys → Late source numbering ys a → Rejected source numbering ys a (ours ys a)
-late-rejected ys a fit late = late-by ys a (late .0) (late .1 .0) fit (late .1 .1 .0) (late .1 .1 .1)
-
-pub unsupported-rejected : (ys : Table) (a : Asked source) → table.FitTable ys → Unsupported source numbering ys a → Rejected source numbering ys a (ours ys a)
-unsupported-rejected ys a fit other = unsupported-by ys a (other .0) (other .1 .0) fit (other .1 .1 .0) (other .1 .1 .1)
-
--- ---- insertions
-pub harmless : (Junk : Table → Asked source → Type 0) → ((ys : Table) (a : Asked source) → table.FitTable ys → Junk ys a → Rejected source numbering ys a (ours ys a)) → claim.InsertedIsHarmless ours Junk
-harmless Junk rejects n few items at =
-    turned-away-is-harmless source numbering ours table.FitTable Junk (λ ys a. stays-fit ys (a .key) (actOf (a .does))) rejects (emptyTable source n) items (empty-fit n few) at
+    rejects : (ys : Table) (a : Asked source) → table.FitTable ys → LateOrUnsupported source numbering ys a → Rejected source numbering ys a (ours ys a)
+    rejects ys a fit (inl late) = late-rejected ys a fit late
+    rejects ys a fit (inr other) = unsupported-rejected ys a fit other

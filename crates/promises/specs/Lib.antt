@@ -1,3 +1,4 @@
 pub mod Source
 pub mod Claims
+pub mod Inserted
 pub mod ShutOut

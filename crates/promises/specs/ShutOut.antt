@@ -1,23 +1,35 @@
--- Controls that do not do the work, and are shut out: 01, "What the contracts settle", names them. Each is a control like ours; each breaks a promise that ours keeps, over a table and a request that are written
--- out here. Proofs: proofs/ShutOut. Assumes nothing.
-use Prim.Native.Nat.{ℕ, _+_}
+-- Controls that do not do the work, and are shut out: 01, "What the contracts settle", names the first five, and the rest break demand 3
+-- each in a way of its own. Each is a control like ours (the first four and how they differ from it are said in runs, specs/ShutOut, of any
+-- end); each breaks a promise that ours keeps, over a table and a request, or at a run, that are written out here. Proofs: proofs/ShutOut.
+-- Assumes nothing.
+use Prim.Native.Nat.{ℕ, zero, suc, _+_}
 use mathlib.Core.Path.{_≡_}
-use mathlib.Core.Bool.{true, not, _&&_, _||_, cond}
-use mathlib.Core.List.{[], _∷_, map}
+use mathlib.Core.Bool.{Bool, true, false, _&&_, _||_, cond}
+use mathlib.Core.List.{List, [], _∷_, map}
 use lib.Dec.{eqb}
-use Rattle.lent.specs.Keyed.{onRecord, replacedFor}
+use Rattle.lent.specs.Keyed.{replacedFor}
+use Rattle.signal.specs.declared.Kind.the-variants.{SetupRequest}
+use Rattle.signal.specs.declared.Signal.{Signal}
 use Rattle.signal.specs.declared.Soft.the-variants.{Symmetric}
+use Rattle.signal.specs.declared.Wanted.{Wanted}
 use Rattle.signal.specs.declared.Wanted.the-variants.{Unnamed}
-use Rattle.signal.specs.Signals.{places}
-use Rattle.source_states.specs.declared.Event.the-variants.{Ready}
+use Rattle.signal.specs.Counting.{kindNumber}
+use Rattle.signal.specs.Signals.{none, setupOn}
+use Rattle.source_states.specs.declared.Event.{Event}
+use Rattle.source_states.specs.declared.Event.the-variants.{Trigger, PathFound, Connect, Ready}
 use Rattle.source_states.specs.declared.State.the-variants.{SoftInitiated}
 use Rattle.source_states.specs.States.{stateNumber}
+use Rattle.source_states.specs.Checks.{among}
 use Rattle.source.specs.declared.Call.{Call}
-use Rattle.runs.specs.Run.{opens, meets, Asked, Reply, Control, emptyTable, callOf}
-use Rattle.runs.specs.Account.{Account, nothing, logged}
-use Rattle.runs.specs.Run.{after}
-use Rattle.promises.specs.Source.{source, ours}
-use Rattle.promises.specs.Claims.{Table, AnswersAt, DoesAt}
+use Rattle.runs.specs.Run.{Does, opens, meets, Asked, Reply, Control, emptyTable, callOf}
+use Rattle.runs.specs.Woven.{Item, own, inserted}
+use Rattle.runs.specs.Late.{Harmless}
+use Rattle.runs.specs.Demand.{AccountAt, LateInserted}
+use Rattle.runs.specs.Exact.{AnswersAt, DoesAt}
+use Rattle.runs.specs.ShutOut as control
+use Rattle.promises.specs.Source.{source, numbering, document, ours, setupNumber}
+use Rattle.promises.specs.Claims.{Table, DemandThree}
+use Rattle.promises.specs.Inserted.{b1, b2, b3, b4}
 
 -- ---- the tables and requests
 -- an opening of key 7, over no record and over an empty one
@@ -33,47 +45,132 @@ ready = record { key = 7; does = meets Ready }
 
 -- ---- it refuses everything, by whatever number
 abbrev pub refusing : (Table → Asked source → ℕ) → Control source
-refusing number ys a = record { answer = number ys a; signals = places []; table = ys }
+refusing number = control.refusing source number
 
 abbrev pub RefusingIsShutOut : Type 0
 RefusingIsShutOut =
-    (number : Table → Asked source → ℕ) → ((ys : Table) (a : Asked source) → number ys a ≡ 0 → ⊥) → AnswersAt (refusing number) (emptyTable source 1) opening → ⊥
+    (number : Table → Asked source → ℕ) → ((ys : Table) (a : Asked source) → number ys a ≡ 0 → ⊥) →
+    AnswersAt source document (refusing number) (emptyTable source 1) opening → ⊥
 
 -- ---- it always returns the same, whatever that is
 abbrev pub constant : Reply source → Control source
-constant r ys a = r
+constant r = control.constant source r
 
 abbrev pub ConstantIsShutOut : Type 0
 ConstantIsShutOut =
-    (r : Reply source) → AnswersAt (constant r) (emptyTable source 1) opening × AnswersAt (constant r) (emptyTable source 0) opening → ⊥
+    (r : Reply source) →
+    AnswersAt source document (constant r) (emptyTable source 1) opening
+    × AnswersAt source document (constant r) (emptyTable source 0) opening →
+    ⊥
 
 -- ---- it answers and signals as it should, and leaves the table untouched
 abbrev pub untouching : Control source
-untouching ys a = record { answer = ours ys a .answer; signals = ours ys a .signals; table = ys }
+untouching = control.untouching source ours
 
 abbrev pub UntouchingIsShutOut : Type 0
-UntouchingIsShutOut = DoesAt untouching (emptyTable source 1) opening → ⊥
+UntouchingIsShutOut = DoesAt source document untouching (emptyTable source 1) opening → ⊥
 
--- ---- it treats the first event of a call, and then merely moves numbers: ours where the key is not on record, or its call is as it was opened, or the request is refused; else the last number is moved
+-- ---- it treats the first event of a call, and then merely moves numbers
+-- ours where the key is not on record, or its call is as it was opened, or the request is refused; else the last number is moved
+abbrev pub isNew : Call → Bool
+isNew c = eqb (stateNumber (c .state)) 1 && (eqb (c .last) 1 && eqb (c .remote) 0)
+
 abbrev pub moved : Call → Call
 moved c = record { key = c .key; hard = c .hard; soft = c .soft; state = c .state; last = c .last + 1; remote = c .remote }
 
 abbrev pub movingNumbers : Control source
-movingNumbers ys a =
-    let c = callOf source (a .key) ys in
-    cond (not (onRecord (source .key) (a .key) ys) || ((eqb (stateNumber (c .state)) 1 && (eqb (c .last) 1 && eqb (c .remote) 0)) || not (eqb (ours ys a .answer) 0))) (ours ys a)
-    record { answer = 0; signals = places []; table = replacedFor (source .key) (a .key) (moved c) ys }
+movingNumbers = control.moving source ours isNew moved
 
 abbrev pub MovingNumbersIsShutOut : Type 0
-MovingNumbersIsShutOut = DoesAt movingNumbers initiated ready → ⊥
+MovingNumbersIsShutOut = DoesAt source document movingNumbers initiated ready → ⊥
+
+-- ---- demand 3, at runs by key 7 over one record
+-- the account of the key is not kept at the end of a run
+abbrev pub BreaksAccount : Control source → List (Asked source) → Type 0
+BreaksAccount C requests = AccountAt source C 1 requests 7 → ⊥
+
+-- a soft reroute from the opening to the switchover: number 2 is asked for by a setup, and number 1 is released
+abbrev pub switched : List (Asked source)
+switched =
+    b1
+    ∷ record { key = 7; does = meets Trigger }
+    ∷ record { key = 7; does = meets PathFound }
+    ∷ record { key = 7; does = meets (Connect 2 true) }
+    ∷ []
 
 -- ---- it invents the last connection number
 abbrev pub invented : Call → Call
-invented c = record { key = c .key; hard = c .hard; soft = c .soft; state = c .state; last = cond (eqb (c .last) 1) 7 (c .last); remote = c .remote }
+invented c =
+    let last = cond (eqb (c .last) 1) 7 (c .last) in
+    record { key = c .key; hard = c .hard; soft = c .soft; state = c .state; last = last; remote = c .remote }
 
 abbrev pub inventing : Control source
-inventing ys a = record { answer = ours ys a .answer; signals = ours ys a .signals; table = map invented (ours ys a .table) }
+inventing = control.storing source invented ours
 
 abbrev pub InventingIsShutOut : Type 0
-InventingIsShutOut =
-    Account source (callOf source 7 (after source inventing (emptyTable source 1) (opening ∷ []))) (logged source inventing 7 (emptyTable source 1) nothing (opening ∷ [])) → ⊥
+InventingIsShutOut = BreaksAccount inventing (opening ∷ [])
+
+-- ---- it never ends number 1: its releases are not sent
+abbrev pub isRelease : Signal → Bool
+isRelease s = eqb (kindNumber (s .kind)) 5 || eqb (kindNumber (s .kind)) 6
+
+abbrev pub withoutOne : List Signal → List Signal
+withoutOne ss = map (λ s. cond (isRelease s && eqb (s .connection) 1) none s) ss
+
+abbrev pub keepingOne : Control source
+keepingOne = control.sending source withoutOne ours
+
+abbrev pub KeepingOneIsShutOut : Type 0
+KeepingOneIsShutOut = BreaksAccount keepingOne switched
+
+-- ---- it ends numbers twice: each release is sent again
+abbrev pub doubled : List Signal → List Signal
+doubled [] = []
+doubled (s ∷ more) = cond (isRelease s) (s ∷ s ∷ doubled more) (s ∷ doubled more)
+
+abbrev pub endingTwice : Control source
+endingTwice = control.sending source doubled ours
+
+abbrev pub EndingTwiceIsShutOut : Type 0
+EndingTwiceIsShutOut = BreaksAccount endingTwice switched
+
+-- ---- its setups name a number that was not given: the next one
+abbrev pub misnamed : Signal → Signal
+misnamed s = cond (eqb (kindNumber (s .kind)) (kindNumber SetupRequest)) (setupOn (s .connection + 1)) s
+
+abbrev pub namingNotGiven : Control source
+namingNotGiven = control.sending source (map misnamed) ours
+
+abbrev pub NamingNotGivenIsShutOut : Type 0
+NamingNotGivenIsShutOut = BreaksAccount namingNotGiven switched
+
+-- ---- it takes a late setup with the number on record: to such a setup it shows ours a record with the number before it
+abbrev pub oneLess : ℕ → ℕ
+oneLess zero = zero
+oneLess (suc n) = n
+
+abbrev pub lowered : Call → Call
+lowered c = record { key = c .key; hard = c .hard; soft = c .soft; state = c .state; last = c .last; remote = oneLess (c .remote) }
+
+abbrev pub hasNumber : ℕ → Does Wanted Event → Bool
+hasNumber n (opens w) = false
+hasNumber n (meets e) = among n (setupNumber e)
+
+abbrev pub takingLate : Control source
+takingLate ys a =
+    let c = callOf source (a .key) ys in
+    cond (hasNumber (c .remote) (a .does)) (ours (replacedFor (source .key) (a .key) (lowered c) ys) a) (ours ys a)
+
+-- B4, inserted behind B1 to B3, is late, and not harmless
+abbrev pub withB4 : List (Item source)
+withB4 = own b1 ∷ own b2 ∷ own b3 ∷ inserted b4 ∷ []
+
+abbrev pub TakingLateIsShutOut : Type 0
+TakingLateIsShutOut =
+    LateInserted source numbering takingLate 1 withB4 × (Harmless source numbering takingLate (emptyTable source 1) withB4 → ⊥)
+
+-- So none of these five keeps demand 3.
+abbrev pub NoneKeepsDemandThree : Type 0
+NoneKeepsDemandThree =
+    (DemandThree inventing → ⊥)
+    × ((DemandThree keepingOne → ⊥) × ((DemandThree endingTwice → ⊥) × ((DemandThree namingNotGiven → ⊥) × (DemandThree takingLate → ⊥))))

@@ -1,5 +1,5 @@
 -- The source node's end of a call, and its control over a table: what `source_table::handle` is proved to do. Assumes nothing.
-use Prim.Native.Nat.{ℕ, suc}
+use Prim.Native.Nat.{ℕ}
 use mathlib.Core.Bool.{Bool, true, false, cond}
 use mathlib.Core.List.{List, [], _∷_}
 use Rattle.signal.specs.declared.Kind.the-variants.{SetupRequest}
@@ -16,12 +16,15 @@ use Rattle.source_states.specs.declared.Event.the-variants.{Trigger, PathFound,
 use Rattle.source_states.specs.States.{heldIn}
 use Rattle.source_states.specs.Checks.{reported}
 use Rattle.source.specs.declared.Call.{Call}
-use Rattle.source.specs.Record.{emptied}
+use Rattle.source.specs.Record.{emptied, openedFor}
+use Rattle.source.specs.Events.{eventOf}
 use Rattle.source_table.specs.declared.Act.{Act}
 use Rattle.source_table.specs.declared.Act.the-variants.{Opens, Meets}
 use Rattle.source_table.specs.Table.{ranOf, tableOf}
+use Rattle.source_table.specs.Claims.{checks, FirstOf}
 use Rattle.runs.specs.Run.{End, Does, opens, meets, Control}
 use Rattle.runs.specs.Late.{Numbering}
+use Rattle.runs.specs.Exact.{Document}
 
 -- a call with symmetric service
 abbrev pub isSymmetric : Soft → Bool
@@ -46,7 +49,8 @@ source =
       requested = λ ss. named (ofKind SetupRequest ss);
     }
 
--- its number check: a setup's number; calls with symmetric service take setups; "clearing" is the one switchover that is supported; a setup is turned away with #8 where it asks for another, and else with #5
+-- its number check: a setup's number; calls with symmetric service take setups; "clearing" is the one switchover that is supported; a setup
+-- is turned away with #8 where it asks for another, and else with #5
 abbrev pub setupNumber : Event → List ℕ
 setupNumber Trigger = []
 setupNumber PathFound = []
@@ -75,13 +79,25 @@ numbering =
       remote = λ c. c .remote;
       number = setupNumber;
       takes = λ c. isSymmetric (c .soft);
-      supported = asksSupported;
+      supported = λ c e. asksSupported e;
       reject = λ c e. places (rejection (cond (asksSupported e) oldNumber unsupported) ∷ []);
     }
 
 abbrev pub actOf : Does Wanted Event → Act
 actOf (opens w) = Opens w
 actOf (meets e) = Meets e
+
+-- what 01 asks: the number of the first check that applies (source_table, specs/Claims says what each check asks); an opening's call and an
+-- event's, with what each sends
+abbrev pub document : Document source
+document =
+    record {
+      Answers = λ ys a n. FirstOf n (checks ys (a .key) (actOf (a .does)));
+      newCall = λ k w. openedFor k w .call;
+      newSent = λ k w. openedFor k w .signals;
+      metCall = λ c e. eventOf c e .call;
+      metSent = λ c e. eventOf c e .signals;
+    }
 
 -- `ranOf` and `tableOf` are what the contract of `handle` fixes
 abbrev pub ours : Control source

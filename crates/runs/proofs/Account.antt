@@ -7,21 +7,17 @@ use mathlib.Core.List.{List, [], _∷_, _++_, append-nil}
 use mathlib.Core.Logic.{_⊎_, inl, inr}
 use lib.Dec.{eqb}
 use lib.ListN.{length, length-append}
-use borrow.Author.Tests.{eqb-true, eqb-false, ne-eqb, le-ltb, lt-ltb}
+use borrow.Author.Tests.{eqb-true, eqb-false, le-ltb, lt-ltb}
 use Rattle.signal.specs.Counting.{one, count}
 use Rattle.signal.proofs.Counting.{count-append, one-self, one-other}
 use Rattle.lent.specs.Keyed.{onRecord, replacedFor}
 use Rattle.runs.specs.Run.{End, Does, opens, meets, Asked, Reply, Control, after, emptyTable, callOf}
-use Rattle.runs.specs.Account.{Log, nothing, oneTo, Settled, AllSettled, givenBy, endedBy, sentIn, entered, noted, logged, Account, Opened, Lives, Met, Lawful}
+use Rattle.runs.specs.Account.{Log, nothing, oneTo, Settled, AllSettled, givenBy, endedBy, askedBy, sentIn, entered, noted, logged, Account, Opened, Lives, Met, Lawful}
 use Rattle.runs.specs.Account as claim
-use Rattle.runs.proofs.Keyed.{has-key, is-none, same-on, same-of, new-of, Once, once-none, once-same, once-new, once-own, gone}
+use Rattle.runs.proofs.Keyed.{has-key, is-none, none-on, same-on, same-of, new-of, Once, once-none, once-same, once-new, once-own, gone}
 
 -- ---- the numbers from 1 to n
-length-one-to : (n : ℕ) → length (oneTo n) ≡ n
-length-one-to zero = refl
-length-one-to (suc n) = length-append (oneTo n) (suc n ∷ []) ∙ omega (arith, length-one-to n)
-
-outside : (n x : ℕ) → (x ≡ 0) ⊎ (n < x) → count x (oneTo n) ≡ 0
+pub outside : (n x : ℕ) → (x ≡ 0) ⊎ (n < x) → count x (oneTo n) ≡ 0
 outside zero x o = refl
 outside (suc n) x (inl e) =
     let other : one x (suc n) ≡ 0 = one-other x (suc n) (λ s. omega arith) in
@@ -30,7 +26,7 @@ outside (suc n) x (inr l) =
     let other : one x (suc n) ≡ 0 = one-other x (suc n) (λ s. omega arith) in
     count-append x (oneTo n) (suc n ∷ []) ∙ omega (arith, outside n x (inr (omega arith)), other)
 
-within : (n x : ℕ) → 1 ≤ x → x ≤ n → count x (oneTo n) ≡ 1
+pub within : (n x : ℕ) → 1 ≤ x → x ≤ n → count x (oneTo n) ≡ 1
 within zero x l m = absurd (omega arith)
 within (suc n) x l m = count-append x (oneTo n) (suc n ∷ []) ∙ by-test (eqb x (suc n)) refl (within n x l)
   where
@@ -97,8 +93,8 @@ module _ (E : End) (C : Control E) (L : Lawful E C) where
       record {
         numbers = h .numbers;
         recorded = λ used. h .recorded (on-call k ys used);
-        accounted = λ x a b. either-way _ _ (once (of k ys) (on k ys) l h x a b);
-        closed = λ nought x a b. omega (arith, once (of k ys) (on k ys) l h x a b, none-held k ys (off-call k ys named nought) x);
+        accounted = λ x a b. either-way _ _ (once (of k ys) (on k ys) l h x (omega arith) b);
+        closed = λ nought x a b. omega (arith, once (of k ys) (on k ys) l h x (omega arith) b, none-held k ys (off-call k ys named nought) x);
         others = λ x o. both-nought (sym (h .counted x) ∙ (ap (count x) (h .numbers) ∙ outside (length (l .given)) x o));
         asked = h .asked;
         before = h .before;
@@ -111,6 +107,9 @@ module _ (E : End) (C : Control E) (L : Lawful E C) where
   nothing-more : (x : ℕ) (ns more : List ℕ) → more ≡ [] → count x (ns ++ more) ≡ count x ns
   nothing-more x ns more e = ap (λ m. count x (ns ++ m)) e ∙ ap (count x) (append-nil ns)
 
+  none-asked : (x : ℕ) (r : Reply E) → r .signals ≡ E .silent → count x (E .requested (r .signals)) ≡ 0
+  none-asked x r quiet = ap (λ s. count x (E .requested s)) quiet ∙ ap (count x) (L .nothing-requested)
+
   refused-kept : (k : ℕ) (ys : Table) (a : Asked E) (l : Log) → (C ys a .answer ≡ 0 → ⊥) → Kept k ys l → Kept k (C ys a .table) (sentIn E (C ys a) l)
   refused-kept k ys a l refused h = subst (λ zs. Kept k zs (sentIn E (C ys a) l)) (sym (quiet .0)) (record { numbers = h .0 .numbers; recorded = h .0 .recorded; counted = counted′; asked = asked′; before = h .0 .before }, h .1)
     where
@@ -120,8 +119,8 @@ module _ (E : End) (C : Control E) (L : Lawful E C) where
       counted′ : (x : ℕ) → count x (l .given) ≡ count x (l .ended ++ E .released (C ys a .signals)) + count x (E .held (of k ys))
       counted′ x = omega (arith, h .0 .counted x, nothing-more x (l .ended) _ (ap (E .released) (quiet .1) ∙ L .nothing-released))
 
-      asked′ : (x : ℕ) → 1 ≤ x → count x (l .requested ++ E .requested (C ys a .signals)) ≤ count x (l .given)
-      asked′ x a′ = omega (arith, h .0 .asked x a′, nothing-more x (l .requested) _ (ap (E .requested) (quiet .1) ∙ L .nothing-requested))
+      asked′ : (x : ℕ) → 1 ≤ x → count x (l .requested ++ askedBy E (C ys a)) ≤ count x (l .given)
+      asked′ x a′ = omega (arith, h .0 .asked x a′, count-append x (l .requested) (askedBy E (C ys a)), none-asked x (C ys a) (quiet .1))
 
   -- ---- an opening
   opening-own : (k : ℕ) (ys : Table) (r : Reply E) (l : Log) (w : E .Wanted) → Opened E ys k r → Kept k ys l → Kept k (r .table) (entered E (opens w) true (of k ys) (of k (r .table)) r l)
@@ -143,9 +142,7 @@ module _ (E : End) (C : Control E) (L : Lawful E C) where
                 let given : count x (E .last (o .call) ∷ []) ≡ count x (E .held (o .call)) = ap (λ n. count x (n ∷ [])) (o .first) ∙ ap (count x) (sym (o .holds)) in
                 let none : count x (E .released (r .signals)) ≡ 0 = ap (λ s. count x (E .released s)) (o .quiet) ∙ ap (count x) (L .nothing-released) in
                 omega arith;
-            asked = λ x a.
-                let none : count x (E .requested (r .signals)) ≡ 0 = ap (λ s. count x (E .requested s)) (o .quiet) ∙ ap (count x) (L .nothing-requested) in
-                omega arith;
+            asked = λ x a. omega (arith, none-asked x r (o .quiet));
             before = (settled, h .0 .before);
           }
 
@@ -208,8 +205,8 @@ module _ (E : End) (C : Control E) (L : Lawful E C) where
       counted′ : (x : ℕ) → count x given′ ≡ count x (l .ended ++ endedBy E e r) + count x (E .held (m .call))
       counted′ x = omega (arith, count-append x (l .given) (givenBy E (of k ys) (m .call)), count-append x (l .ended) (endedBy E e r), h .0 .counted x, m .balances x)
 
-      asked′ : (x : ℕ) → 1 ≤ x → count x (l .requested ++ E .requested (r .signals)) ≤ count x given′
-      asked′ x a = omega (arith, count-append x (l .given) (givenBy E (of k ys) (m .call)), count-append x (l .requested) (E .requested (r .signals)), h .0 .asked x a, m .asks x a)
+      asked′ : (x : ℕ) → 1 ≤ x → count x (l .requested ++ askedBy E r) ≤ count x given′
+      asked′ x a = omega (arith, count-append x (l .given) (givenBy E (of k ys) (m .call)), count-append x (l .requested) (askedBy E r), h .0 .asked x a, m .asks x a)
 
   -- ---- a request for another key leaves this one
   record Same (k : ℕ) (ys zs : Table) : Type 0 where
@@ -279,20 +276,19 @@ module _ (E : End) (C : Control E) (L : Lawful E C) where
   along k ys (a ∷ more) l named h = along k (C ys a .table) more (noted E k ys a (C ys a) l) named (step k (a .key) ys (a .does) l named h)
 
   -- an empty table has no key, and nothing to account for
-  none-on : (k n : ℕ) → (k ≡ 0 → ⊥) → on k (emptyTable E n) ≡ false
-  none-on k zero named = refl
-  none-on k (suc n) named = rw (ne-eqb (E .key (E .empty)) k (λ s. named (sym s ∙ L .unused)), none-on k n named)
+  none-first : (k n : ℕ) → (k ≡ 0 → ⊥) → on k (emptyTable E n) ≡ false
+  none-first k n named = none-on (E .key) (E .empty) k n (λ s. named (sym s ∙ L .unused))
 
   at-first : (k n : ℕ) → (k ≡ 0 → ⊥) → Kept k (emptyTable E n) nothing
   at-first k n named = (
     record {
       numbers = refl;
-      recorded = λ t. absurd (true≢false (sym t ∙ none-on k n named));
-      counted = λ x. omega (arith, none-held k (emptyTable E n) (none-on k n named) x);
+      recorded = λ t. absurd (true≢false (sym t ∙ none-first k n named));
+      counted = λ x. omega (arith, none-held k (emptyTable E n) (none-first k n named) x);
       asked = λ x a. omega arith;
       before = tt;
     },
-    once-none (E .key) (E .empty) k (emptyTable E n) (none-on k n named),
+    once-none (E .key) (E .empty) k (emptyTable E n) (none-first k n named),
   )
 
 pub laws-keep-account : (E : End) → claim.LawsKeepAccount E

@@ -1,10 +1,11 @@
 -- The laws of a table of records with keys. Assumes nothing.
-use Prim.Native.Nat.{ℕ}
+use Prim.Native.Nat.{ℕ, zero, suc}
 use mathlib.Core.Path.{_≡_, refl, sym, _∙_, ap}
 use mathlib.Core.Bool.{Bool, true, false, _||_, cond, true≢false, false≢true}
 use mathlib.Core.List.{List, [], _∷_}
 use mathlib.Core.Logic.{_⊎_, inl, inr}
 use lib.Dec.{eqb}
+use lib.ListN.{replicate}
 use borrow.Author.Tests.{eqb-true, eqb-false, eq-eqb, ne-eqb}
 use Rattle.lent.specs.Keyed.{onRecord, recordOf, replacedFor}
 
@@ -34,6 +35,11 @@ module _ {X : Type 0} (key : X → ℕ) (none : X) where
       by-test : (b : Bool) → (b || on k cs) ≡ false → (on k cs ≡ false → of k cs ≡ none) → cond b c (of k cs) ≡ none
       by-test true t rest = absurd (true≢false t)
       by-test false t rest = rest t
+
+  -- a table of nothing but records without a key has no key
+  pub none-on : (k n : ℕ) → (key none ≡ k → ⊥) → on k (replicate n none) ≡ false
+  none-on k zero other = refl
+  none-on k (suc n) other = rw (ne-eqb (key none) k other, none-on k n other)
 
   -- a record replaced under another key leaves a key as it was
   pub same-on : (k j : ℕ) (d : X) (ys : List X) → (j ≡ k → ⊥) → (key d ≡ k → ⊥) → on k (put j d ys) ≡ on k ys

@@ -2,3 +2,6 @@ pub mod Keyed
 pub mod Woven
 pub mod Late
 pub mod Account
+pub mod Demand
+pub mod Exact
+pub mod ShutOut

@@ -1,4 +1,5 @@
--- The account of connection numbers over a whole run: what has been given to the call of a key since its opening, and what has been ended. Assumes nothing.
+-- The account of connection numbers over a whole run: what has been given to the call of a key since its opening, and what has been ended.
+-- Assumes nothing.
 use Prim.Native.Nat.{ℕ, zero, suc, _+_, _≤_, _<_}
 use mathlib.Core.Path.{_≡_}
 use mathlib.Core.Bool.{Bool, true, false, cond}
@@ -48,24 +49,28 @@ module _ (E : End) where
   abbrev pub endedBy : E .Event → Reply E → List ℕ
   endedBy e r = E .reported e ++ E .released (r .signals)
 
+  -- the numbers that are asked for by setups that are sent
+  abbrev pub askedBy : Reply E → List ℕ
+  askedBy r = E .requested (r .signals)
+
   -- what is sent counts, whatever the answer
   abbrev pub sentIn : Reply E → Log → Log
   sentIn r l =
       record {
         given = l .given;
         ended = l .ended ++ E .released (r .signals);
-        requested = l .requested ++ E .requested (r .signals);
+        requested = l .requested ++ askedBy r;
         past = l .past;
       }
 
-  -- a request for the key enters its log. An opening that is done begins it anew, and what was before is a call that has been; an event that is done adds what it gives and ends; of what is refused, only what
-  -- is sent counts
+  -- a request for the key enters its log. An opening that is done begins it anew, and what was before is a call that has been; an event
+  -- that is done adds what it gives and ends; of what is refused, only what is sent counts
   abbrev pub entered : Does (E .Wanted) (E .Event) → Bool → E .Record → E .Record → Reply E → Log → Log
   entered (opens w) true before now r l =
       record {
         given = E .last now ∷ [];
         ended = E .released (r .signals);
-        requested = E .requested (r .signals);
+        requested = askedBy r;
         past = record { given = l .given; ended = l .ended } ∷ l .past;
       }
   entered (opens w) false before now r l = sentIn r l
@@ -73,7 +78,7 @@ module _ (E : End) where
       record {
         given = l .given ++ givenBy before now;
         ended = l .ended ++ endedBy e r;
-        requested = l .requested ++ E .requested (r .signals);
+        requested = l .requested ++ askedBy r;
         past = l .past;
       }
   entered (meets e) false before now r l = sentIn r l
@@ -111,7 +116,8 @@ module _ (E : End) where
 
   -- ---- what one request must do for that, over any table: the laws that an end shows of its own control
 
-  -- an opening that is done: the key was not on record, a record was empty, and the first such holds the new call, with number 1; nothing is sent
+  -- an opening that is done: the key was not on record, a record was empty, and the first such holds the new call, with number 1; nothing
+  -- is sent
   pub record Opened (ys : List (E .Record)) (k : ℕ) (r : Reply E) : Type 0 where
     pub call : E .Record
     pub own : E .key call ≡ k
@@ -143,8 +149,10 @@ module _ (E : End) where
     pub nothing-released : E .released (E .silent) ≡ []
     pub nothing-requested : E .requested (E .silent) ≡ []
     pub refused : RefusalsAreSilent E C
-    pub opened : (ys : List (E .Record)) (k : ℕ) (w : E .Wanted) → C ys (record { key = k; does = opens w }) .answer ≡ 0 → Opened ys k (C ys (record { key = k; does = opens w }))
-    pub met : (ys : List (E .Record)) (k : ℕ) (e : E .Event) → C ys (record { key = k; does = meets e }) .answer ≡ 0 → Met ys k e (C ys (record { key = k; does = meets e }))
+    pub opened : (ys : List (E .Record)) (k : ℕ) (w : E .Wanted) → C ys (record { key = k; does = opens w }) .answer ≡ 0 →
+        Opened ys k (C ys (record { key = k; does = opens w }))
+    pub met : (ys : List (E .Record)) (k : ℕ) (e : E .Event) → C ys (record { key = k; does = meets e }) .answer ≡ 0 →
+        Met ys k e (C ys (record { key = k; does = meets e }))
 
   -- Any control with these laws keeps the account.
   abbrev pub LawsKeepAccount : Type 0

@@ -3,17 +3,19 @@ use Prim.Native.Nat.{ℕ, _≤_}
 use mathlib.Core.Path.{_≡_}
 use mathlib.Core.Bool.{Bool, true, false}
 use mathlib.Core.List.{List, [], _∷_}
+use mathlib.Core.Logic.{_⊎_}
 use Rattle.lent.specs.Keyed.{onRecord}
 use Rattle.runs.specs.Run.{End, meets, Asked, Reply, Control, callOf}
 use Rattle.runs.specs.Woven.{Item, AtInsertions, LeftAlone}
 
--- The number check of an end: the neighbour's incarnation number on record; the number of a setup, and none of any other event; whether a call takes such setups at all; whether an end supports what the
--- setup asks for; and what is sent to turn it away
+-- The number check of an end: the neighbour's incarnation number on record; the number of a setup, and none of any other event; whether a
+-- call takes such setups at all; whether it supports, as it is, what the setup asks for; and what is sent to turn it away, by the first
+-- check that it breaks
 pub record Numbering (E : End) : Type 0 where
   pub remote : E .Record → ℕ
   pub number : E .Event → List ℕ
   pub takes : E .Record → Bool
-  pub supported : E .Event → Bool
+  pub supported : E .Record → E .Event → Bool
   pub reject : E .Record → E .Event → E .Signals
 
 module _ (E : End) (N : Numbering E) where
@@ -34,7 +36,11 @@ module _ (E : End) (N : Numbering E) where
 
   -- it asks for what is not supported, whatever its number
   abbrev pub Unsupported : Table → Asked E → Type 0
-  Unsupported ys a = (e : E .Event) × ((n : ℕ) × (SetupFor ys a e n × (N .supported e ≡ false)))
+  Unsupported ys a = (e : E .Event) × ((n : ℕ) × (SetupFor ys a e n × (N .supported (callOf E (a .key) ys) e ≡ false)))
+
+  -- either: what demand 3 inserts
+  abbrev pub LateOrUnsupported : Table → Asked E → Type 0
+  LateOrUnsupported ys a = Late ys a ⊎ Unsupported ys a
 
   -- it is answered 0, turned away, and changes no record
   pub record Rejected (ys : Table) (a : Asked E) (r : Reply E) : Type 0 where
@@ -49,7 +55,8 @@ module _ (E : End) (N : Numbering E) where
     pub rejected : AtInsertions E C Rejected ys items
     pub others : LeftAlone E C ys items
 
-  -- Where a control turns such requests away over every table of some kind, and keeps tables of that kind, they are harmless wherever they are inserted.
+  -- Where a control turns such requests away over every table of some kind, and keeps tables of that kind, they are harmless wherever they
+  -- are inserted.
   abbrev pub TurnedAwayIsHarmless : Type 1
   TurnedAwayIsHarmless =
       (C : Control E) (Kind : Table → Type 0) (Junk : Table → Asked E → Type 0) →

@@ -2,3 +2,6 @@ pub mod Run
 pub mod Woven
 pub mod Late
 pub mod Account
+pub mod Demand
+pub mod Exact
+pub mod ShutOut

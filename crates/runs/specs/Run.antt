@@ -1,12 +1,14 @@
--- One end of a call, as far as runs and the account of connection numbers need it; a control over a table of such calls; and its runs. Assumes nothing.
+-- One end of a call, as far as runs and the account of connection numbers need it; a control over a table of such calls; and its runs.
+-- Assumes nothing.
 use Prim.Native.Nat.{ℕ}
 use mathlib.Core.Path.{_≡_}
 use mathlib.Core.List.{List, [], _∷_}
 use lib.ListN.{replicate}
 use Rattle.lent.specs.Keyed.{recordOf}
 
--- The records, openings, events and signals of an end. Of a record: its key, the last connection number given, and the connections that its state holds. Of an event: the connections whose release it
--- reports. Of what is sent: the connections that are released, and those that are asked for by a setup; and what stands for nothing sent
+-- The records, openings, events and signals of an end. Of a record: its key, the last connection number given, and the connections that its
+-- state holds. Of an event: the connections whose release it reports. Of what is sent: the connections that are released, and those that
+-- are asked for by a setup; and what stands for nothing sent
 pub record End : Type 1 where
   pub Record : Type 0
   pub Wanted : Type 0

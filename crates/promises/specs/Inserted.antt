@@ -1,0 +1,81 @@
+-- What demand 3 inserts is there: B4 and B5 of the bench run (01), and a late and an unsupported setup for every call with symmetric
+-- service. Without these the demand could be kept by saying nothing. Assumes nothing.
+use Prim.Native.Nat.{ℕ}
+use mathlib.Core.Path.{_≡_}
+use mathlib.Core.Bool.{true}
+use mathlib.Core.List.{List, [], _∷_}
+use Rattle.lent.specs.Keyed.{onRecord}
+use Rattle.signal.specs.declared.ReroutingCause.{ReroutingCause}
+use Rattle.signal.specs.declared.Soft.the-variants.{Symmetric}
+use Rattle.signal.specs.declared.Switchover.{Switchover}
+use Rattle.signal.specs.declared.Wanted.the-variants.{Named}
+use Rattle.signal.specs.Causes.{oldNumber, unsupported}
+use Rattle.signal.specs.Signals.{places, rejection}
+use Rattle.source_states.specs.declared.Event.the-variants.{Setup, Ready}
+use Rattle.source_states.specs.declared.State.the-variants.{Awaiting}
+use Rattle.source_table.specs.Bench.{clearing, immediate}
+use Rattle.runs.specs.Run.{opens, meets, Asked, Reply, Control, runOf, after, emptyTable, callOf}
+use Rattle.runs.specs.Woven.{Item, own, inserted}
+use Rattle.runs.specs.Late.{Late, Unsupported}
+use Rattle.runs.specs.Demand.{LateInserted}
+use Rattle.promises.specs.Source.{source, numbering, ours}
+use Rattle.promises.specs.Claims.{Table, DemandThree}
+
+-- ---- the bench run, by key 7, over a table of one record
+abbrev pub b1 : Asked source
+b1 = record { key = 7; does = opens (Named (record { hard = true; soft = Symmetric })) }
+
+abbrev pub b2 : Asked source
+b2 = record { key = 7; does = meets (Setup clearing 3) }
+
+abbrev pub b3 : Asked source
+b3 = record { key = 7; does = meets Ready }
+
+abbrev pub b4 : Asked source
+b4 = record { key = 7; does = meets (Setup clearing 3) }
+
+abbrev pub b5 : Asked source
+b5 = record { key = 7; does = meets (Setup immediate 9) }
+
+abbrev pub b1ToB3 : List (Asked source)
+b1ToB3 = b1 ∷ b2 ∷ b3 ∷ []
+
+-- B4 and B5 inserted behind B1 to B3
+abbrev pub benchItems : List (Item source)
+benchItems = own b1 ∷ own b2 ∷ own b3 ∷ inserted b4 ∷ inserted b5 ∷ []
+
+-- the table after B3
+abbrev pub awaiting : Table
+awaiting = record { key = 7; hard = true; soft = Symmetric; state = Awaiting 1 2; last = 2; remote = 3 } ∷ []
+
+abbrev pub BenchReached : Type 0
+BenchReached = after source ours (emptyTable source 1) b1ToB3 ≡ awaiting
+
+-- There B4 is late, and B5 asks for what is not supported: demand 3 speaks of both.
+abbrev pub B4IsLate : Type 0
+B4IsLate = Late source numbering awaiting b4
+
+abbrev pub B5IsUnsupported : Type 0
+B5IsUnsupported = Unsupported source numbering awaiting b5
+
+abbrev pub BenchInserted : Type 0
+BenchInserted = LateInserted source numbering ours 1 benchItems
+
+-- a setup rejected with a cause, as 01 prints it: answered 0, that one reject, and the table the same
+abbrev pub rejectedWith : ReroutingCause → Reply source
+rejectedWith k = record { answer = 0; signals = places (rejection k ∷ []); table = awaiting }
+
+-- And what it says of them is what 01 prints. Of any control that keeps it and comes to that table: B4 is rejected with #5, and B5 with #8.
+abbrev pub BenchRejected : Type 0
+BenchRejected =
+    (C : Control source) → DemandThree C → after source C (emptyTable source 1) b1ToB3 ≡ awaiting →
+    runOf source C awaiting (b4 ∷ b5 ∷ []) ≡ rejectedWith oldNumber ∷ rejectedWith unsupported ∷ []
+
+-- ---- every call with symmetric service
+-- At every point where one is on record, over any table: a setup with the number 0 is late, and one with code 0, "immediate", asks for what
+-- is not supported, whatever its number.
+abbrev pub SetupsToInsert : Type 0
+SetupsToInsert =
+    (ys : Table) (k : ℕ) → (k ≡ 0 → ⊥) → onRecord (source .key) k ys ≡ true → callOf source k ys .soft ≡ Symmetric →
+    ((code : Switchover) → Late source numbering ys (record { key = k; does = meets (Setup code 0) }))
+    × ((number : ℕ) → Unsupported source numbering ys (record { key = k; does = meets (Setup immediate number) }))
