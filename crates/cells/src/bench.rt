@@ -1,9 +1,13 @@
 // The bench run of 01 on one call, a line for each event (docs/CELLS.md, "The bench run").
 use crate::line::write_line;
 use crate::words;
+use call::Call;
+use call::Outcome;
+use events::Event;
 use lines::put_byte;
 use lines::put_number;
 use lines::put_word;
+use rows::State;
 use signal::Crankback;
 use signal::ReceivedCause;
 use signal::ReroutingCause;
@@ -11,10 +15,6 @@ use signal::Services;
 use signal::Soft;
 use signal::Switchover;
 use signal::Wanted;
-use source::Call;
-use source::Event;
-use source::Outcome;
-use source_states::State;
 
 // A run so far: the call after its last event, and whether every line was written.
 struct Run {
@@ -72,7 +72,7 @@ fn lose_incumbent(run: Run) -> Run {
 }
 
 fn called(connection: u16, cause: ReceivedCause) -> Event {
-    Event::FromCalled(connection, cause, Crankback::NoCrankback)
+    Event::FromDomain(connection, cause, Crankback::NoCrankback)
 }
 
 impl Run {
@@ -125,8 +125,8 @@ fn put_state(line: &mut [u8], at: usize, state: State) -> usize {
     match state {
         State::Null => put_word(line, at, b"Null"),
         State::Idle(incumbent) => put_one(line, at, b"Rerouting Idle", incumbent),
-        State::HardTriggered => put_word(line, at, b"Hard Reroute Triggered"),
-        State::HardProceeding(rerouting) => {
+        State::HardWaiting => put_word(line, at, b"Hard Reroute Triggered"),
+        State::HardUnderway(rerouting) => {
             put_one(line, at, b"Hard Reroute Proceeding", rerouting)
         }
         State::SoftTriggered(incumbent) => put_one(line, at, b"Soft Reroute Triggered", incumbent),

@@ -3,6 +3,10 @@
 // A function that prints answers false as soon as a write fails, and then nothing more is written.
 use crate::line::write_line;
 use crate::words;
+use call::Call;
+use call::Outcome;
+use events::Event;
+use rows::State;
 use signal::Crankback;
 use signal::ReceivedCause;
 use signal::ReroutingCause;
@@ -10,10 +14,6 @@ use signal::Services;
 use signal::Soft;
 use signal::Switchover;
 use signal::Wanted;
-use source::Call;
-use source::Event;
-use source::Outcome;
-use source_states::State;
 
 // The side that a release comes from, the called side with the connection.
 enum Side {
@@ -46,8 +46,8 @@ fn print_doubled(state: State, hard: bool, soft: Soft, last: u16) -> bool {
     match state {
         State::Null => true,
         State::Idle(_) => true,
-        State::HardTriggered => true,
-        State::HardProceeding(_) => true,
+        State::HardWaiting => true,
+        State::HardUnderway(_) => true,
         State::SoftTriggered(_) => true,
         State::SoftProceeding(_, _) => print_record(State::SoftProceeding(4, 4), hard, soft, last),
         State::SoftInitiated(_, _) => print_record(State::SoftInitiated(4, 4), hard, soft, last),
@@ -127,7 +127,7 @@ fn with_cause(number: u8) -> ReceivedCause {
 
 fn print_release(call: Call, side: Side, cause: ReceivedCause) -> bool {
     match side {
-        Side::Calling => print_cell(call, Event::FromCalling(cause)),
+        Side::Calling => print_cell(call, Event::FromParty(cause)),
         Side::Called(connection) => print_crankbacks(call, connection, cause),
     }
 }
@@ -139,7 +139,7 @@ fn print_crankbacks(call: Call, connection: u16, cause: ReceivedCause) -> bool {
 }
 
 fn print_called(call: Call, connection: u16, cause: ReceivedCause, crankback: Crankback) -> bool {
-    print_cell(call, Event::FromCalled(connection, cause, crankback))
+    print_cell(call, Event::FromDomain(connection, cause, crankback))
 }
 
 fn print_cell(call: Call, event: Event) -> bool {

@@ -1,6 +1,6 @@
 // Prints the cells of one call, the openings and the bench run, by the letters that it reads (docs/CELLS.md).
 //
-// The methods of `source::Call` decide every event; the rest is printing. `line` builds a line and writes it, `words` says openings and events
+// The methods of `call::Call` decide every event; the rest is printing. `line` builds a line and writes it, `words` says openings and events
 // in words, and `cells` and `bench` go through what a letter names.
 mod bench;
 mod cells;
@@ -8,7 +8,7 @@ mod line;
 mod words;
 
 use libc::STDIN_FILENO;
-use source_states::State;
+use rows::State;
 
 // A loop has to end, and nothing says that the input does: so the turns are counted down, from a number that no run uses up.
 fn main() {
@@ -45,8 +45,8 @@ fn print_letter(letter: u8) -> bool {
     match letter {
         b'0' => cells::print_state(State::Null),
         b'1' => cells::print_state(State::Idle(3)),
-        b'2' => cells::print_state(State::HardTriggered),
-        b'3' => cells::print_state(State::HardProceeding(5)),
+        b'2' => cells::print_state(State::HardWaiting),
+        b'3' => cells::print_state(State::HardUnderway(5)),
         b'4' => cells::print_state(State::SoftTriggered(3)),
         b'5' => cells::print_state(State::SoftProceeding(3, 5)),
         b'6' => cells::print_state(State::SoftInitiated(3, 5)),

@@ -1,4 +1,5 @@
 // Openings and events in words (docs/CELLS.md, "A cell").
+use events::Event;
 use lines::put_byte;
 use lines::put_number;
 use lines::put_word;
@@ -9,7 +10,6 @@ use signal::Services;
 use signal::Soft;
 use signal::Switchover;
 use signal::Wanted;
-use source::Event;
 
 pub(crate) fn put_bar(line: &mut [u8], at: usize) -> usize {
     put_word(line, at, b" | ")
@@ -62,8 +62,8 @@ pub(crate) fn put_event(line: &mut [u8], at: usize, event: Event) -> usize {
         Event::NoPath => put_word(line, at, b"nopath"),
         Event::Connect(connection, agreed) => put_connect(line, at, connection, agreed),
         Event::Setup(code, number) => put_setup(line, at, code, number),
-        Event::FromCalling(cause) => put_calling(line, at, cause),
-        Event::FromCalled(connection, cause, crankback) => {
+        Event::FromParty(cause) => put_calling(line, at, cause),
+        Event::FromDomain(connection, cause, crankback) => {
             put_called(line, at, connection, cause, crankback)
         }
         Event::Ready => put_word(line, at, b"ready"),

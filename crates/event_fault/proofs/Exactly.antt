@@ -5,7 +5,7 @@ use mathlib.Core.Path.{_≡_, refl}
 use mathlib.Core.Bool.{Bool, true, false, _||_, cond}
 use lib.Dec.{eqb, ltb}
 use borrow.Author.Tests.{ltb-true, ltb-false, lt-ltb, le-ltb, ne-eqb}
-use Rattle.source_table.specs.declared.Act.{Act}
+use Rattle.events.specs.declared.Act.{Act}
 use Rattle.event_record.specs.Record.{numberOf, openOf, connectOf, callingOf, calledOf, askedOf}
 use Rattle.event_record.specs.declared.Request.{Request}
 use Rattle.event_record.specs.declared.Request.the-variants.{Bad, Asks}

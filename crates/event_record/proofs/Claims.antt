@@ -17,10 +17,10 @@ use Rattle.signal.specs.declared.Soft.{Soft}
 use Rattle.signal.specs.declared.Soft.the-variants.{NoSoft, Asymmetric, Symmetric}
 use Rattle.signal.specs.declared.Wanted.{Wanted}
 use Rattle.signal.specs.declared.Wanted.the-variants.{Unnamed, Named}
-use Rattle.source_states.specs.declared.Event.{Event}
-use Rattle.source_states.specs.declared.Event.the-variants.{Trigger, PathFound, NoPath, Connect, Setup, FromCalling, FromCalled, Ready, Expiry}
-use Rattle.source_table.specs.declared.Act.{Act}
-use Rattle.source_table.specs.declared.Act.the-variants.{Opens, Meets}
+use Rattle.events.specs.declared.Event.{Event}
+use Rattle.events.specs.declared.Event.the-variants.{Trigger, PathFound, NoPath, Connect, Setup, FromParty, FromDomain, Ready, Expiry}
+use Rattle.events.specs.declared.Act.{Act}
+use Rattle.events.specs.declared.Act.the-variants.{Opens, Meets}
 use Rattle.event_record.specs.Record.{octet, numberOf, askedOf, openOf, connectOf, callingOf, calledOf}
 use Rattle.event_record.specs.Encoded.{flagNumber, presentNumber, causeNumber, openValues, eventValues, actValues}
 use Rattle.event_record.specs.Claims.{highestFirst, EventFits, ActFits}
@@ -72,12 +72,12 @@ connect-back : (policy : Bool) (c : ℕ) → c < 65536 → connectOf (flagNumber
 connect-back true c h = rw (le-ltb 65535 c (omega arith))
 connect-back false c h = rw (le-ltb 65535 c (omega arith))
 
-calling-back : (cause : ReceivedCause) → callingOf (presentNumber cause) (causeNumber cause) 0 ≡ Asks (Meets (FromCalling cause))
+calling-back : (cause : ReceivedCause) → callingOf (presentNumber cause) (causeNumber cause) 0 ≡ Asks (Meets (FromParty cause))
 calling-back NoCause = refl
 calling-back (WithCause c) = refl
 
 called-back : (c : ℕ) (cause : ReceivedCause) (back : Crankback) → c < 65536 →
-    calledOf (presentNumber cause) (causeNumber cause) (crankbackNumber back) c ≡ Asks (Meets (FromCalled c cause back))
+    calledOf (presentNumber cause) (causeNumber cause) (crankbackNumber back) c ≡ Asks (Meets (FromDomain c cause back))
 called-back c NoCause NoCrankback h = rw (le-ltb 65535 c (omega arith))
 called-back c NoCause AlternateFound h = rw (le-ltb 65535 c (omega arith))
 called-back c NoCause NoAlternate h = rw (le-ltb 65535 c (omega arith))
@@ -95,8 +95,8 @@ event-back PathFound f = refl
 event-back NoPath f = refl
 event-back (Connect c policy) f = connect-back policy c f
 event-back (Setup s n) f = refl
-event-back (FromCalling cause) f = calling-back cause
-event-back (FromCalled c cause back) f = called-back c cause back (f .0)
+event-back (FromParty cause) f = calling-back cause
+event-back (FromDomain c cause back) f = called-back c cause back (f .0)
 event-back Ready f = refl
 event-back Expiry f = refl
 
@@ -113,8 +113,8 @@ number-fits (Meets PathFound) f = omega arith
 number-fits (Meets NoPath) f = omega arith
 number-fits (Meets (Connect c policy)) f = omega arith
 number-fits (Meets (Setup s n)) f = f .1
-number-fits (Meets (FromCalling cause)) f = omega arith
-number-fits (Meets (FromCalled c cause back)) f = let h : c < 65536 = f .0 in omega arith
+number-fits (Meets (FromParty cause)) f = omega arith
+number-fits (Meets (FromDomain c cause back)) f = let h : c < 65536 = f .0 in omega arith
 number-fits (Meets Ready) f = omega arith
 number-fits (Meets Expiry) f = omega arith
 

@@ -9,10 +9,10 @@ use Rattle.signal.specs.declared.ReceivedCause.{ReceivedCause}
 use Rattle.signal.specs.declared.ReceivedCause.the-variants.{NoCause, WithCause}
 use Rattle.signal.specs.declared.Soft.the-variants.{NoSoft, Asymmetric, Symmetric}
 use Rattle.signal.specs.declared.Wanted.the-variants.{Unnamed, Named}
-use Rattle.source_states.specs.declared.Event.{Event}
-use Rattle.source_states.specs.declared.Event.the-variants.{Trigger, PathFound, NoPath, Connect, Setup, FromCalling, FromCalled, Ready, Expiry}
-use Rattle.source_table.specs.declared.Act.{Act}
-use Rattle.source_table.specs.declared.Act.the-variants.{Opens, Meets}
+use Rattle.events.specs.declared.Event.{Event}
+use Rattle.events.specs.declared.Event.the-variants.{Trigger, PathFound, NoPath, Connect, Setup, FromParty, FromDomain, Ready, Expiry}
+use Rattle.events.specs.declared.Act.{Act}
+use Rattle.events.specs.declared.Act.the-variants.{Opens, Meets}
 use Rattle.event_record.specs.Record.{octet, numberOf, decodedOf}
 use Rattle.event_record.specs.Encoded.{recordOf}
 use Rattle.event_record.specs.declared.Request.the-variants.{Bad, Asks}
@@ -70,12 +70,12 @@ SetupMeans =
 abbrev pub CallingMeans : Type 0
 CallingMeans =
     (cause : ℕ) (more : List ℕ) →
-    (decodedOf (6 ∷ 0 ∷ cause ∷ 0 ∷ more) .request ≡ Asks (Meets (FromCalling NoCause)))
-    × ((decodedOf (6 ∷ 0 ∷ cause ∷ 1 ∷ more) .request ≡ Asks (Meets (FromCalling NoCause)))
-    × ((decodedOf (6 ∷ 0 ∷ cause ∷ 2 ∷ more) .request ≡ Asks (Meets (FromCalling NoCause)))
-    × ((decodedOf (6 ∷ 1 ∷ cause ∷ 0 ∷ more) .request ≡ Asks (Meets (FromCalling (WithCause (record { number = cause })))))
-    × ((decodedOf (6 ∷ 1 ∷ cause ∷ 1 ∷ more) .request ≡ Asks (Meets (FromCalling (WithCause (record { number = cause })))))
-    × (decodedOf (6 ∷ 1 ∷ cause ∷ 2 ∷ more) .request ≡ Asks (Meets (FromCalling (WithCause (record { number = cause })))))))))
+    (decodedOf (6 ∷ 0 ∷ cause ∷ 0 ∷ more) .request ≡ Asks (Meets (FromParty NoCause)))
+    × ((decodedOf (6 ∷ 0 ∷ cause ∷ 1 ∷ more) .request ≡ Asks (Meets (FromParty NoCause)))
+    × ((decodedOf (6 ∷ 0 ∷ cause ∷ 2 ∷ more) .request ≡ Asks (Meets (FromParty NoCause)))
+    × ((decodedOf (6 ∷ 1 ∷ cause ∷ 0 ∷ more) .request ≡ Asks (Meets (FromParty (WithCause (record { number = cause })))))
+    × ((decodedOf (6 ∷ 1 ∷ cause ∷ 1 ∷ more) .request ≡ Asks (Meets (FromParty (WithCause (record { number = cause })))))
+    × (decodedOf (6 ∷ 1 ∷ cause ∷ 2 ∷ more) .request ≡ Asks (Meets (FromParty (WithCause (record { number = cause })))))))))
 
 -- 7 called release: the same, with crankback none, alternate found, none found (decision 22), and the connection as in a connect
 abbrev pub CalledMeans : Type 0
@@ -83,12 +83,12 @@ CalledMeans =
     (cause s t u v a b : ℕ) (more : List ℕ) → a < 256 → b < 256 →
     let named : List ℕ = s ∷ t ∷ u ∷ v ∷ 0 ∷ 0 ∷ a ∷ b ∷ more in
     let given : ReceivedCause = WithCause (record { number = cause }) in
-    (decodedOf (7 ∷ 0 ∷ cause ∷ 0 ∷ named) .request ≡ Asks (Meets (FromCalled (a * 256 + b) NoCause NoCrankback)))
-    × ((decodedOf (7 ∷ 0 ∷ cause ∷ 1 ∷ named) .request ≡ Asks (Meets (FromCalled (a * 256 + b) NoCause AlternateFound)))
-    × ((decodedOf (7 ∷ 0 ∷ cause ∷ 2 ∷ named) .request ≡ Asks (Meets (FromCalled (a * 256 + b) NoCause NoAlternate)))
-    × ((decodedOf (7 ∷ 1 ∷ cause ∷ 0 ∷ named) .request ≡ Asks (Meets (FromCalled (a * 256 + b) given NoCrankback)))
-    × ((decodedOf (7 ∷ 1 ∷ cause ∷ 1 ∷ named) .request ≡ Asks (Meets (FromCalled (a * 256 + b) given AlternateFound)))
-    × (decodedOf (7 ∷ 1 ∷ cause ∷ 2 ∷ named) .request ≡ Asks (Meets (FromCalled (a * 256 + b) given NoAlternate)))))))
+    (decodedOf (7 ∷ 0 ∷ cause ∷ 0 ∷ named) .request ≡ Asks (Meets (FromDomain (a * 256 + b) NoCause NoCrankback)))
+    × ((decodedOf (7 ∷ 0 ∷ cause ∷ 1 ∷ named) .request ≡ Asks (Meets (FromDomain (a * 256 + b) NoCause AlternateFound)))
+    × ((decodedOf (7 ∷ 0 ∷ cause ∷ 2 ∷ named) .request ≡ Asks (Meets (FromDomain (a * 256 + b) NoCause NoAlternate)))
+    × ((decodedOf (7 ∷ 1 ∷ cause ∷ 0 ∷ named) .request ≡ Asks (Meets (FromDomain (a * 256 + b) given NoCrankback)))
+    × ((decodedOf (7 ∷ 1 ∷ cause ∷ 1 ∷ named) .request ≡ Asks (Meets (FromDomain (a * 256 + b) given AlternateFound)))
+    × (decodedOf (7 ∷ 1 ∷ cause ∷ 2 ∷ named) .request ≡ Asks (Meets (FromDomain (a * 256 + b) given NoAlternate)))))))
 
 -- Any other value is bad, whatever stands elsewhere: a kind above 9; of an opening byte 1 or hard above 1, or soft above 2; policy above 1;
 -- of a release cause present above 1, or crankback above 2.
@@ -111,7 +111,7 @@ OctetsInTheirOrder =
     (decodedOf (5 ∷ 1 ∷ 0 ∷ 0 ∷ 1 ∷ 2 ∷ 3 ∷ 4 ∷ 5 ∷ 6 ∷ 7 ∷ 8 ∷ 0 ∷ 0 ∷ 0 ∷ 0 ∷ [])
     ≡ record { key = 16909060; request = Asks (Meets (Setup (record { code = 1 }) 84281096)) })
     × (decodedOf (7 ∷ 1 ∷ 4 ∷ 2 ∷ 4 ∷ 3 ∷ 2 ∷ 1 ∷ 0 ∷ 0 ∷ 9 ∷ 10 ∷ 0 ∷ 0 ∷ 0 ∷ 0 ∷ [])
-    ≡ record { key = 67305985; request = Asks (Meets (FromCalled 2314 (WithCause (record { number = 4 })) NoAlternate)) })
+    ≡ record { key = 67305985; request = Asks (Meets (FromDomain 2314 (WithCause (record { number = 4 })) NoAlternate)) })
 
 -- 01, "The trace": a connect or a called release with a connection number above 65,535 is bad.
 abbrev pub AboveIsBad : Type 0
@@ -129,8 +129,8 @@ EventFits PathFound = Unit {0}
 EventFits NoPath = Unit {0}
 EventFits (Connect c policy) = c < 65536
 EventFits (Setup s n) = (s .code < 256) × (n < 4294967296)
-EventFits (FromCalling cause) = CauseFits cause
-EventFits (FromCalled c cause back) = (c < 65536) × CauseFits cause
+EventFits (FromParty cause) = CauseFits cause
+EventFits (FromDomain c cause back) = (c < 65536) × CauseFits cause
 EventFits Ready = Unit {0}
 EventFits Expiry = Unit {0}
 

@@ -7,10 +7,10 @@ use Rattle.signal.specs.declared.ReceivedCause.{ReceivedCause}
 use Rattle.signal.specs.declared.ReceivedCause.the-variants.{NoCause, WithCause}
 use Rattle.signal.specs.declared.Wanted.{Wanted}
 use Rattle.signal.specs.declared.Wanted.the-variants.{Unnamed, Named}
-use Rattle.source_states.specs.declared.Event.{Event}
-use Rattle.source_states.specs.declared.Event.the-variants.{Trigger, PathFound, NoPath, Connect, Setup, FromCalling, FromCalled, Ready, Expiry}
-use Rattle.source_table.specs.declared.Act.{Act}
-use Rattle.source_table.specs.declared.Act.the-variants.{Opens, Meets}
+use Rattle.events.specs.declared.Event.{Event}
+use Rattle.events.specs.declared.Event.the-variants.{Trigger, PathFound, NoPath, Connect, Setup, FromParty, FromDomain, Ready, Expiry}
+use Rattle.events.specs.declared.Act.{Act}
+use Rattle.events.specs.declared.Act.the-variants.{Opens, Meets}
 use Rattle.event_record.specs.declared.Values.{Values}
 
 -- four octets, big-endian
@@ -45,8 +45,8 @@ eventValues PathFound = brought 2 0 0 0 0
 eventValues NoPath = brought 3 0 0 0 0
 eventValues (Connect c policy) = brought 4 (flagNumber policy) 0 0 c
 eventValues (Setup s n) = brought 5 (s .code) 0 0 n
-eventValues (FromCalling cause) = brought 6 (presentNumber cause) (causeNumber cause) 0 0
-eventValues (FromCalled c cause back) = brought 7 (presentNumber cause) (causeNumber cause) (crankbackNumber back) c
+eventValues (FromParty cause) = brought 6 (presentNumber cause) (causeNumber cause) 0 0
+eventValues (FromDomain c cause back) = brought 7 (presentNumber cause) (causeNumber cause) (crankbackNumber back) c
 eventValues Ready = brought 8 0 0 0 0
 eventValues Expiry = brought 9 0 0 0 0
 

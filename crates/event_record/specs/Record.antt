@@ -11,8 +11,8 @@ use Rattle.signal.specs.declared.ReceivedCause.the-variants.{NoCause, WithCause
 use Rattle.signal.specs.declared.Soft.{Soft}
 use Rattle.signal.specs.declared.Soft.the-variants.{NoSoft, Asymmetric, Symmetric}
 use Rattle.signal.specs.declared.Wanted.the-variants.{Unnamed, Named}
-use Rattle.source_states.specs.declared.Event.the-variants.{Trigger, PathFound, NoPath, Connect, Setup, FromCalling, FromCalled, Ready, Expiry}
-use Rattle.source_table.specs.declared.Act.the-variants.{Opens, Meets}
+use Rattle.events.specs.declared.Event.the-variants.{Trigger, PathFound, NoPath, Connect, Setup, FromParty, FromDomain, Ready, Expiry}
+use Rattle.events.specs.declared.Act.the-variants.{Opens, Meets}
 use Rattle.event_record.specs.declared.Request.{Request}
 use Rattle.event_record.specs.declared.Request.the-variants.{Bad, Asks}
 use Rattle.event_record.specs.declared.Decoded.{Decoded}
@@ -49,14 +49,14 @@ connectOf policy connection = cond (ltb 1 policy) Bad (cond (ltb 65535 connectio
 
 -- a release from the calling side: crankback is named of every release, and tested here too
 abbrev pub callingOf : ℕ → ℕ → ℕ → Request
-callingOf present n back = cond (ltb 1 present) Bad (cond (ltb 2 back) Bad (Asks (Meets (FromCalling (causeOf present n)))))
+callingOf present n back = cond (ltb 1 present) Bad (cond (ltb 2 back) Bad (Asks (Meets (FromParty (causeOf present n)))))
 
 -- and from the called side, for a connection
 abbrev pub calledOf : ℕ → ℕ → ℕ → ℕ → Request
 calledOf present n back connection =
     cond (ltb 1 present) Bad
     (cond (ltb 2 back) Bad
-    (cond (ltb 65535 connection) Bad (Asks (Meets (FromCalled connection (causeOf present n) (crankbackOf back))))))
+    (cond (ltb 65535 connection) Bad (Asks (Meets (FromDomain connection (causeOf present n) (crankbackOf back))))))
 
 -- the events that are only a key
 abbrev pub plainOf : ℕ → Request

@@ -6,7 +6,9 @@ ghost use Rattle.event_record.specs.Record.{numberOf, softOf, crankbackO
 ghost use Rattle.event_record.specs.Encoded.{flagNumber, presentNumber, causeNumber, brought, openValues, eventValues, actValues, laidOut, recordOf};
 ghost use Prim.Native.Nat.{_%_};
 ghost use Rattle.signal.specs.Numbers.{crankbackNumber};
-ghost use Rattle.source_states.specs.declared.Event.the-variants.{FromCalling, FromCalled};
+ghost use Rattle.events.specs.declared.Event.the-variants.{FromParty, FromDomain};
+use events::Act;
+use events::Event;
 use signal::Crankback;
 use signal::ReceivedCause;
 use signal::ReroutingCause;
@@ -14,8 +16,6 @@ use signal::Services;
 use signal::Soft;
 use signal::Switchover;
 use signal::Wanted;
-use source::Event;
-use source_table::Act;
 
 // What the octets before and behind the key ask for.
 pub enum Request {
@@ -122,7 +122,7 @@ fn calling(present: u8, number: u8, back: u8) -> Request
     if 2 < back {
         return Request::Bad;
     }
-    Request::Asks(Act::Meets(Event::FromCalling(cause(present, number))))
+    Request::Asks(Act::Meets(Event::FromParty(cause(present, number))))
 }
 
 fn called(present: u8, number: u8, back: u8, connection: u32) -> Request
@@ -139,7 +139,7 @@ fn called(present: u8, number: u8, back: u8, connection: u32) -> Request
     }
     let received = cause(present, number);
     let found = crankback(back);
-    Request::Asks(Act::Meets(Event::FromCalled(connection as u16, received, found)))
+    Request::Asks(Act::Meets(Event::FromDomain(connection as u16, received, found)))
 }
 
 // The events that are only a key.
@@ -256,13 +256,13 @@ fn open_values(wanted: Wanted) -> Values
 }
 
 fn calling_values(cause: ReceivedCause) -> Values
-    ensures { λ r. ⌜ r ≡ eventValues (FromCalling cause) ⌝ }
+    ensures { λ r. ⌜ r ≡ eventValues (FromParty cause) ⌝ }
 {
     brought(6, present_number(cause), cause_number(cause), 0, 0)
 }
 
 fn called_values(connection: u16, cause: ReceivedCause, back: Crankback) -> Values
-    ensures { λ r. ⌜ r ≡ eventValues (FromCalled connection cause back) ⌝ }
+    ensures { λ r. ⌜ r ≡ eventValues (FromDomain connection cause back) ⌝ }
 {
     brought(
         7,
@@ -288,8 +288,8 @@ fn event_values(event: Event) -> Values
             connection as u32,
         ),
         Event::Setup(switchover, number) => brought(5, switchover.code, 0, 0, number),
-        Event::FromCalling(cause) => calling_values(cause),
-        Event::FromCalled(connection, cause, back) => called_values(connection, cause, back),
+        Event::FromParty(cause) => calling_values(cause),
+        Event::FromDomain(connection, cause, back) => called_values(connection, cause, back),
         Event::Ready => brought(8, 0, 0, 0, 0),
         Event::Expiry => brought(9, 0, 0, 0, 0),
     }

@@ -12,10 +12,10 @@ use Rattle.signal.specs.declared.Soft.{Soft}
 use Rattle.signal.specs.declared.Soft.the-variants.{NoSoft, Asymmetric, Symmetric}
 use Rattle.signal.specs.declared.Wanted.{Wanted}
 use Rattle.signal.specs.declared.Wanted.the-variants.{Unnamed, Named}
-use Rattle.source_states.specs.declared.Event.{Event}
-use Rattle.source_states.specs.declared.Event.the-variants.{Trigger, PathFound, NoPath, Connect, Setup, FromCalling, FromCalled, Ready, Expiry}
-use Rattle.source_table.specs.declared.Act.{Act}
-use Rattle.source_table.specs.declared.Act.the-variants.{Opens, Meets}
+use Rattle.events.specs.declared.Event.{Event}
+use Rattle.events.specs.declared.Event.the-variants.{Trigger, PathFound, NoPath, Connect, Setup, FromParty, FromDomain, Ready, Expiry}
+use Rattle.events.specs.declared.Act.{Act}
+use Rattle.events.specs.declared.Act.the-variants.{Opens, Meets}
 
 -- a number behind a blank
 abbrev pub thenNumber : ℕ → List ℕ
@@ -59,8 +59,8 @@ eventName PathFound = ascii "path"
 eventName NoPath = ascii "nopath"
 eventName (Connect c policy) = ascii "connect"
 eventName (Setup s n) = ascii "setup"
-eventName (FromCalling cause) = ascii "calling"
-eventName (FromCalled c cause back) = ascii "called"
+eventName (FromParty cause) = ascii "calling"
+eventName (FromDomain c cause back) = ascii "called"
 eventName Ready = ascii "ready"
 eventName Expiry = ascii "expiry"
 
@@ -75,8 +75,8 @@ valuesText PathFound = []
 valuesText NoPath = []
 valuesText (Connect c policy) = thenNumber c ++ policyText policy
 valuesText (Setup s n) = codeText (s .code) ++ thenNumber n
-valuesText (FromCalling cause) = causeText cause
-valuesText (FromCalled c cause back) = thenNumber c ++ (causeText cause ++ crankbackText back)
+valuesText (FromParty cause) = causeText cause
+valuesText (FromDomain c cause back) = thenNumber c ++ (causeText cause ++ crankbackText back)
 valuesText Ready = []
 valuesText Expiry = []
 

@@ -4,14 +4,14 @@
 ghost use mathlib.Core.Path.{_≡_};
 ghost use Rattle.lines.specs.Lines.{page, putText};
 ghost use Rattle.event_words.specs.Words.{thenNumber, hardText, softText, wantedText, policyText, codeText, causeText, crankbackText, eventName, nameText, valuesText, restText, eventText};
-ghost use Rattle.source_states.specs.declared.Event.the-variants.{Connect, Setup, FromCalled};
+ghost use Rattle.events.specs.declared.Event.the-variants.{Connect, Setup, FromDomain};
+use events::Act;
+use events::Event;
 use signal::Crankback;
 use signal::ReceivedCause;
 use signal::Soft;
 use signal::Switchover;
 use signal::Wanted;
-use source::Event;
-use source_table::Act;
 
 // A number behind a blank.
 fn put_then(out: &mut [u8], at: usize, number: u64) -> usize
@@ -105,8 +105,8 @@ fn put_event_name(out: &mut [u8], at: usize, event: Event) -> usize
         Event::NoPath => lines::put_word(out, at, b"nopath"),
         Event::Connect(_, _) => lines::put_word(out, at, b"connect"),
         Event::Setup(_, _) => lines::put_word(out, at, b"setup"),
-        Event::FromCalling(_) => lines::put_word(out, at, b"calling"),
-        Event::FromCalled(_, _, _) => lines::put_word(out, at, b"called"),
+        Event::FromParty(_) => lines::put_word(out, at, b"calling"),
+        Event::FromDomain(_, _, _) => lines::put_word(out, at, b"called"),
         Event::Ready => lines::put_word(out, at, b"ready"),
         Event::Expiry => lines::put_word(out, at, b"expiry"),
     }
@@ -142,7 +142,7 @@ fn put_called(
     cause: ReceivedCause,
     back: Crankback,
 ) -> usize
-    ensures { λ r. ⌜ page (now (out .exit)) r ≡ putText (page (now (out .entry)) at) (valuesText (FromCalled connection cause back)) ⌝ }
+    ensures { λ r. ⌜ page (now (out .exit)) r ≡ putText (page (now (out .entry)) at) (valuesText (FromDomain connection cause back)) ⌝ }
 {
     let named = put_then(out, at, connection as u64);
     let caused = put_cause(out, named, cause);
@@ -158,8 +158,8 @@ fn put_values(out: &mut [u8], at: usize, event: Event) -> usize
         Event::NoPath => at,
         Event::Connect(connection, policy) => put_connect(out, at, connection, policy),
         Event::Setup(switchover, number) => put_setup(out, at, switchover, number),
-        Event::FromCalling(cause) => put_cause(out, at, cause),
-        Event::FromCalled(connection, cause, back) => put_called(out, at, connection, cause, back),
+        Event::FromParty(cause) => put_cause(out, at, cause),
+        Event::FromDomain(connection, cause, back) => put_called(out, at, connection, cause, back),
         Event::Ready => at,
         Event::Expiry => at,
     }

@@ -2,7 +2,7 @@
 use Prim.Native.Nat.{ℕ}
 use mathlib.Core.List.{List, [], _∷_, _++_}
 use Rattle.lines.specs.Lines.{ascii, numberText}
-use Rattle.source_table.specs.declared.Act.{Act}
+use Rattle.events.specs.declared.Act.{Act}
 use Rattle.event_fault.specs.Words.{faultText}
 use Rattle.event_fault.specs.declared.Fault.{Fault}
 use Rattle.event_words.specs.Words.{eventText}

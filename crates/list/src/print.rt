@@ -3,7 +3,7 @@ ghost use mathlib.Core.Path.{_≡_};
 ghost use Rattle.lines.specs.Lines.{page, putText};
 ghost use Rattle.list.specs.Line.{lineText, recordText, badText, shortText};
 use event_fault::Fault;
-use source_table::Act;
+use events::Act;
 
 pub(crate) fn put_line(out: &mut [u8], at: usize, count: u64, key: u32, act: Act) -> usize
     ensures { λ r. ⌜ page (now (out .exit)) r ≡ putText (page (now (out .entry)) at) (lineText count key act) ⌝ }

@@ -23,6 +23,10 @@ pairs e f i = (e i, f i)
 pub result : {A L : Type 0} {r s x : A} {left : L} → r ≡ x → s ≡ x → (r ≡ s) × (left ≡ left)
 result p q = (same p q, refl)
 
+-- the same, written the other way round
+pub told : {A L : Type 0} {r s x : A} {left : L} → x ≡ r → x ≡ s → (r ≡ s) × (left ≡ left)
+told p q = (sym p ∙ q, refl)
+
 -- an equation for the result, and one for what the first parameter holds at exit; no other is lent to be written
 pub result-and-lent : {A B L : Type 0} {r s x : A} {y : B} {left other : B × L} → left .1 ≡ other .1 → (r ≡ x) × (left .0 ≡ y) → (s ≡ x) × (other .0 ≡ y) → (r ≡ s) × (left ≡ other)
 result-and-lent e p q = (same (p .0) (q .0), pairs (same (p .1) (q .1)) e)

@@ -3,13 +3,13 @@ pub mod Distinct
 pub mod Lines
 pub mod Signal
 pub mod SignalWords
-pub mod SourceStates
+pub mod Rows
 pub mod SourceRequests
 pub mod SourceConnects
 pub mod SourceSetups
 pub mod SourceReleases
 pub mod SourceEndings
-pub mod Source
+pub mod Call
 pub mod SourceWords
 pub mod SourceTable
 pub mod EventRecord

@@ -2,8 +2,7 @@
 use mathlib.Core.Path.{refl}
 use Rattle.one_answer.specs.One.{OneAnswer}
 use Rattle.one_answer.proofs.Law.{facts, result}
-use Rattle.signal.proofs.ReceivedCause.forwarded as ReceivedCause-forwarded
-use Rattle.signal.proofs.ReceivedCause.restated as ReceivedCause-restated
+use Rattle.signal.proofs.ReceivedCause.as_received as ReceivedCause-as_received
 use Rattle.signal.proofs.ReceivedCause.passed as ReceivedCause-passed
 use Rattle.signal.proofs.Switchover.clearing as Switchover-clearing
 use Rattle.signal.proofs.Soft.number as Soft-number
@@ -15,11 +14,8 @@ use Rattle.signal.proofs.Answer.number as Answer-number
 use Rattle.signal.proofs.Fresh.after as Fresh-after
 use Rattle.signal.proofs.late as late
 
-pub ReceivedCause-forwarded-has-one-answer : {M : Type 1} → OneAnswer M ReceivedCause-forwarded.ended ReceivedCause-forwarded.clauses ReceivedCause-forwarded.spec
-ReceivedCause-forwarded-has-one-answer 𝓤 _ _ _ _ = (refl, λ _ _ _ _ _ _ _ _. facts 𝓤 result)
-
-pub ReceivedCause-restated-has-one-answer : {M : Type 1} → OneAnswer M ReceivedCause-restated.ended ReceivedCause-restated.clauses ReceivedCause-restated.spec
-ReceivedCause-restated-has-one-answer 𝓤 _ _ _ _ = (refl, λ _ _ _ _ _ _ _ _. facts 𝓤 result)
+pub ReceivedCause-as_received-has-one-answer : {M : Type 1} → OneAnswer M ReceivedCause-as_received.ended ReceivedCause-as_received.clauses ReceivedCause-as_received.spec
+ReceivedCause-as_received-has-one-answer 𝓤 _ _ _ _ = (refl, λ _ _ _ _ _ _ _ _. facts 𝓤 result)
 
 pub ReceivedCause-passed-has-one-answer : {M : Type 1} → OneAnswer M ReceivedCause-passed.ended ReceivedCause-passed.clauses ReceivedCause-passed.spec
 ReceivedCause-passed-has-one-answer 𝓤 _ _ _ _ = (refl, λ _ _ _ _ _ _ _ _. facts 𝓤 result)

@@ -7,8 +7,8 @@ use mathlib.Core.List.{[], _∷_}
 use mathlib.Core.Logic.{inl, inr}
 use Rattle.distinct.specs.Distinct.{has, distinctOf}
 use Rattle.lent.specs.Search.{readFrom}
-use Rattle.source_states.specs.declared.Event.{Event}
-use Rattle.source_states.specs.declared.Event.the-variants.{Setup}
+use Rattle.events.specs.declared.Event.{Event}
+use Rattle.events.specs.declared.Event.the-variants.{Setup}
 use Rattle.signal.specs.Causes.{oldNumber, unsupported}
 use Rattle.source_table.specs.Bench.{clearing, immediate}
 use Rattle.runs.specs.Run.{meets, Asked, Reply, callOf}

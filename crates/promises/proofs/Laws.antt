@@ -1,45 +1,45 @@
 -- The laws that the account asks of an end (runs, specs/Account), of the source node's. Assumes nothing.
-use Prim.Native.Nat.{ℕ, zero, suc, _+_, _≤_, _<_, zero-le, suc-le-suc}
+use Prim.Native.Nat.{_+_, _<_, _≤_, suc, suc-le-suc, zero, zero-le, ℕ}
 use native.Mathlib.Omega.{arith}
-use mathlib.Core.Path.{_≡_, refl, sym, _∙_, ap, subst}
-use mathlib.Core.Bool.{Bool, true, false, not, _||_, cond, false≢true}
-use mathlib.Core.List.{List, [], _∷_, _++_}
+use mathlib.Core.Bool.{Bool, _||_, cond, false, false≢true, not, true}
+use mathlib.Core.List.{List, [], _++_, _∷_}
 use mathlib.Core.Logic.{_⊎_, inl, inr}
+use mathlib.Core.Path.{_∙_, _≡_, ap, refl, subst, sym}
 use lib.Dec.{eqb, ltb}
-use lib.ListN.{length, getD}
+use lib.ListN.{getD, length}
 use borrow.Author.Tests.{eqb-false, lt-ltb}
-use Rattle.signal.specs.declared.Signal.{Signal}
-use Rattle.signal.specs.declared.Wanted.{Wanted}
+use Rattle.runs.proofs.Keyed.{has-key}
+use Rattle.runs.specs.Account.{Lawful, Lives, Met, Opened, givenBy}
+use Rattle.runs.specs.Run.{meets, opens}
+use Rattle.signal.proofs.Counting.{one-other}
+use Rattle.signal.specs.Counting.{count, endedSent, named, ofKind, one}
 use Rattle.signal.specs.Numbers.{answerNumber}
 use Rattle.signal.specs.declared.Kind.the-variants.{SetupRequest}
-use Rattle.signal.specs.Counting.{one, count, endedSent, named, ofKind}
-use Rattle.signal.proofs.Counting.{one-other}
-use Rattle.source_states.specs.Checks.{AllAre, reported}
-use Rattle.source.specs.Claims.{endedReceived}
-use Rattle.source_states.specs.declared.Event.{Event}
-use Rattle.source_states.specs.States.{isNull, heldIn}
-use Rattle.source.specs.declared.Call.{Call}
-use Rattle.source.specs.Record.{emptied, openedFor}
-use Rattle.source.specs.Events.{eventOf}
-use Rattle.source.proofs.Claims.{key-and-services-stay, ended-is-emptied, last-by-one, balances, signals-name-their-own}
-use Rattle.source_table.specs.declared.Act.{Act}
-use Rattle.source_table.specs.declared.Act.the-variants.{Opens, Meets}
-use Rattle.source_table.specs.Fit.{fitTable}
-use Rattle.source_table.specs.Claims as table
+use Rattle.signal.specs.declared.Signal.{Signal}
+use Rattle.signal.specs.declared.Wanted.{Wanted}
+use Rattle.events.specs.Events.{reported}
+use Rattle.events.specs.declared.Act.{Act}
+use Rattle.events.specs.declared.Act.the-variants.{Meets, Opens}
+use Rattle.events.specs.declared.Event.{Event}
+use Rattle.rows.specs.Checks.{AllAre}
+use Rattle.rows.specs.States.{heldIn, isNull}
+use Rattle.call.proofs.Source.{balances, ended-is-emptied, key-and-services-stay, last-by-one, signals-name-their-own}
+use Rattle.call.specs.Claims.{endedReceived}
+use Rattle.call.specs.Events.{eventOf, sourceHalf}
+use Rattle.call.specs.Record.{emptied, openedFor}
+use Rattle.call.specs.declared.Call.{Call}
 use Rattle.source_table.proofs.Fit.{fit-exactly}
-use Rattle.source_table.proofs.Stored.{event-changes-its-call, opening-takes-its-record}
-use Rattle.source_table.proofs.Claims.{refusals-change-nothing, answers-in-order}
-use Rattle.runs.proofs.Keyed.{has-key}
-use Rattle.runs.specs.Run.{opens, meets}
-use Rattle.runs.specs.Account.{givenBy, Opened, Met, Lives, Lawful}
-use Rattle.promises.specs.Source.{source, ours, actOf}
+use Rattle.source_table.proofs.Source.{answers-in-order, event-changes-its-call, opening-takes-its-record, refusals-change-nothing}
+use Rattle.source_table.specs.Fit.{fitTable}
+use Rattle.promises.specs.Source.{actOf, ours, source}
+use Rattle.source_table.specs.Claims as table
 
 -- ---- what an answer 0 says: the table is fit, the key is not 0, and the key stands or does not
-pub done-fit : (ys : List Call) (key : ℕ) (act : Act) → table.answered ys key act ≡ 0 → (fitTable ys ≡ true) × ((eqb key 0 ≡ false) × (table.answerFor ys key act ≡ 0))
+pub done-fit : (ys : List Call) (key : ℕ) (act : Act) → table.answered sourceHalf ys key act ≡ 0 → (fitTable ys ≡ true) × ((eqb key 0 ≡ false) × (table.answerFor sourceHalf ys key act ≡ 0))
 done-fit ys key act done = by-tests (fitTable ys) (eqb key 0) refl refl (sym (answers-in-order ys key act) ∙ done)
   where
-    by-tests : (fit nought : Bool) → fitTable ys ≡ fit → eqb key 0 ≡ nought → cond fit (cond nought 102 (table.answerFor ys key act)) 101 ≡ 0 →
-        (fitTable ys ≡ true) × ((eqb key 0 ≡ false) × (table.answerFor ys key act ≡ 0))
+    by-tests : (fit nought : Bool) → fitTable ys ≡ fit → eqb key 0 ≡ nought → cond fit (cond nought 102 (table.answerFor sourceHalf ys key act)) 101 ≡ 0 →
+        (fitTable ys ≡ true) × ((eqb key 0 ≡ false) × (table.answerFor sourceHalf ys key act ≡ 0))
     by-tests true false f n e = (f, (n, e))
     by-tests true true f n e = absurd (omega arith)
     by-tests false nought f n e = absurd (omega arith)
@@ -62,7 +62,7 @@ live-of k ys named fit h =
     each-of table.FitRecord k ys (fit-exactly ys .0 fit .each) h .used (λ nought. named (sym (key-of k ys h) ∙ nought)) .live
 
 -- ---- openings
-pub opening-law : (ys : List Call) (k : ℕ) (w : Wanted) → table.answered ys k (Opens w) ≡ 0 → Opened source ys k (ours ys (record { key = k; does = opens w }))
+pub opening-law : (ys : List Call) (k : ℕ) (w : Wanted) → table.answered sourceHalf ys k (Opens w) ≡ 0 → Opened source ys k (ours ys (record { key = k; does = opens w }))
 opening-law ys k w done =
     let found = by-tests (table.onRecord k ys) (table.onRecord 0 ys) refl refl (done-fit ys k (Opens w) done .1 .1) in
     record {
@@ -83,7 +83,7 @@ opening-law ys k w done =
     by-tests true free h f e = absurd (omega arith)
 
 -- ---- events
-standing : (ys : List Call) (k : ℕ) (e : Event) → table.answerFor ys k (Meets e) ≡ 0 → (table.onRecord k ys ≡ true) × (answerNumber (eventOf (table.callOf k ys) e .answer) ≡ 0)
+standing : (ys : List Call) (k : ℕ) (e : Event) → table.answerFor sourceHalf ys k (Meets e) ≡ 0 → (table.onRecord k ys ≡ true) × (answerNumber (eventOf (table.callOf k ys) e .answer) ≡ 0)
 standing ys k e done = by-test (table.onRecord k ys) refl done
   where
     by-test : (here : Bool) → table.onRecord k ys ≡ here → cond (not here) 105 (answerNumber (eventOf (table.callOf k ys) e .answer)) ≡ 0 →
@@ -148,7 +148,7 @@ asked-for c e live x positive = by-state (isNull (eventOf c e .call .state)) ref
         let none = never-nought x (named sent) positive (subst (λ n. AllAre n (named sent)) (ap (λ d. d .last) (ended-is-emptied c e _ refl live h)) own) in
         omega arith
 
-pub event-law : (ys : List Call) (k : ℕ) (e : Event) → table.answered ys k (Meets e) ≡ 0 → Met source ys k e (ours ys (record { key = k; does = meets e }))
+pub event-law : (ys : List Call) (k : ℕ) (e : Event) → table.answered sourceHalf ys k (Meets e) ≡ 0 → Met source ys k e (ours ys (record { key = k; does = meets e }))
 event-law ys k e done =
     let fit = done-fit ys k (Meets e) done in
     let here = standing ys k e (fit .1 .1) in

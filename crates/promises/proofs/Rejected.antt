@@ -1,46 +1,48 @@
 -- Setups that are turned away over any fit table, and that a run starts from one or is refused all along: what demand 3 asks to be shown of insertions. Assumes nothing.
-use Prim.Native.Nat.{ℕ, zero, suc, _≤_, _<_}
+use Prim.Native.Nat.{_<_, _≤_, suc, zero, ℕ}
 use native.Mathlib.Omega.{arith}
-use mathlib.Core.Path.{_≡_, refl, sym, _∙_, ap, subst}
-use mathlib.Core.Bool.{Bool, true, false, not, cond, true≢false, false≢true}
+use mathlib.Core.Bool.{Bool, cond, false, false≢true, not, true, true≢false}
 use mathlib.Core.List.{List, [], _∷_}
 use mathlib.Core.Logic.{_⊎_, inl, inr}
+use mathlib.Core.Path.{_∙_, _≡_, ap, refl, subst, sym}
 use lib.Dec.{eqb, ltb}
-use lib.ListN.{length, getD, length-replicate}
-use borrow.Author.Tests.{ne-eqb, le-leb, ltb-true, ltb-false}
-use Rattle.signal.specs.declared.Signal.{Signal}
-use Rattle.signal.specs.declared.Soft.{Soft}
-use Rattle.signal.specs.declared.Soft.the-variants.{NoSoft, Asymmetric, Symmetric}
-use Rattle.signal.specs.declared.Switchover.{Switchover}
-use Rattle.signal.specs.Causes.{unsupported, oldNumber}
+use lib.ListN.{getD, length, length-replicate}
+use borrow.Author.Tests.{le-leb, ltb-false, ltb-true, ne-eqb}
+use Rattle.lent.specs.Keyed.{onRecord}
+use Rattle.runs.proofs.Demand.{nothing-inserted-where-refused}
+use Rattle.runs.specs.Demand.{TurnsAway}
+use Rattle.runs.specs.Late.{Late, LateOrUnsupported, Rejected, SetupFor, Unsupported}
+use Rattle.runs.specs.Run.{Asked, callOf, emptyTable, meets}
+use Rattle.signal.specs.Causes.{oldNumber, unsupported}
 use Rattle.signal.specs.Numbers.{answerNumber, isClearing}
 use Rattle.signal.specs.Signals.{places, rejection}
-use Rattle.source_states.specs.declared.Event.{Event}
-use Rattle.source_states.specs.declared.Event.the-variants.{Trigger, PathFound, NoPath, Connect, Setup, FromCalling, FromCalled, Ready, Expiry}
-use Rattle.source_states.specs.declared.State.{State}
-use Rattle.source_states.specs.declared.State.the-variants.{Null, Idle, HardTriggered, HardProceeding, SoftTriggered, SoftProceeding, SoftInitiated, Awaiting}
-use Rattle.source_states.specs.States.{isNull}
-use Rattle.source_states.specs.Checks.{meaningless, rejectionWanted}
-use Rattle.source.specs.declared.Call.{Call}
-use Rattle.source.specs.Record.{emptied}
-use Rattle.source.proofs.Claims.{rejected-setup-leaves-record}
-use Rattle.source_table.specs.declared.Act.the-variants.{Meets}
-use Rattle.source_table.specs.Table.{ranOf, tableOf}
-use Rattle.source_table.specs.Fit.{fitTable}
-use Rattle.source_table.specs.Claims as table
+use Rattle.signal.specs.declared.Signal.{Signal}
+use Rattle.signal.specs.declared.Soft.{Soft}
+use Rattle.signal.specs.declared.Soft.the-variants.{Asymmetric, NoSoft, Symmetric}
+use Rattle.signal.specs.declared.Switchover.{Switchover}
+use Rattle.events.specs.Events.{setupNumber}
+use Rattle.events.specs.declared.Act.the-variants.{Meets}
+use Rattle.events.specs.declared.Event.{Event}
+use Rattle.events.specs.declared.Event.the-variants.{Connect, Expiry, FromDomain, FromParty, NoPath, PathFound, Ready, Setup, Trigger}
+use Rattle.rows.specs.Checks.{rejectionWanted, rejections}
+use Rattle.rows.specs.States.{isNull}
+use Rattle.rows.specs.declared.State.{State}
+use Rattle.rows.specs.declared.State.the-variants.{Awaiting, HardUnderway, HardWaiting, Idle, Null, SoftInitiated, SoftProceeding}
+use Rattle.rows.specs.declared.State.the-variants.{SoftTriggered}
+use Rattle.source_rows.specs.Demands.{meaningless, sourceDemands}
+use Rattle.call.proofs.Source.{rejected-setup-leaves-record}
+use Rattle.call.specs.Events.{sourceHalf}
+use Rattle.call.specs.Record.{emptied, standing}
+use Rattle.call.specs.declared.Call.{Call}
 use Rattle.source_table.proofs.Fit.{fit-exactly}
-use Rattle.source_table.proofs.Stored.{event-changes-its-call}
-use Rattle.source_table.proofs.Claims.{answers-in-order, unfit-is-refused}
-use Rattle.source_table.proofs.Kept.{stays-fit}
-use Rattle.lent.specs.Keyed.{onRecord}
-use Rattle.runs.specs.Run.{meets, Asked, emptyTable, callOf}
-use Rattle.runs.specs.Late.{SetupFor, Late, Unsupported, LateOrUnsupported, Rejected}
-use Rattle.runs.specs.Demand.{TurnsAway}
-use Rattle.runs.proofs.Demand.{nothing-inserted-where-refused}
-use Rattle.promises.specs.Source.{source, numbering, ours, actOf, isSymmetric, setupNumber, asksSupported}
+use Rattle.source_table.proofs.Source.{answers-in-order, event-changes-its-call, stays-fit, unfit-is-refused}
+use Rattle.source_table.specs.Fit.{fitTable}
+use Rattle.source_table.specs.Table.{ranOf, tableOf}
+use Rattle.promises.proofs.Laws.{lawful, live-of}
 use Rattle.promises.specs.Claims.{Table}
+use Rattle.promises.specs.Source.{actOf, asksSupported, isSymmetric, numbering, ours, source}
+use Rattle.source_table.specs.Claims as table
 use Rattle.promises.specs.Claims as claim
-use Rattle.promises.proofs.Laws.{live-of, lawful}
 
 -- ---- an empty table is fit, and every table of a run
 no-record : (n i : ℕ) → getD (emptyTable source n) i emptied ≡ emptied
@@ -61,8 +63,8 @@ empty-fit n few =
 has-meaning : (s : State) (code : Switchover) (number : ℕ) → isNull s ≡ false → meaningless Symmetric s (Setup code number) ≡ false
 has-meaning Null code number h = absurd (true≢false h)
 has-meaning (Idle i) code number h = refl
-has-meaning HardTriggered code number h = refl
-has-meaning (HardProceeding r) code number h = refl
+has-meaning HardWaiting code number h = refl
+has-meaning (HardUnderway r) code number h = refl
 has-meaning (SoftTriggered i) code number h = refl
 has-meaning (SoftProceeding i r) code number h = refl
 has-meaning (SoftInitiated i r) code number h = refl
@@ -76,15 +78,15 @@ abbrev reject : Switchover → Signal
 reject code = rejection (cond (isClearing code) oldNumber unsupported)
 
 wanted-late : (c : Call) (code : Switchover) (number : ℕ) → c .soft ≡ Symmetric → isNull (c .state) ≡ false → number ≤ c .remote →
-    rejectionWanted (c .soft) (c .remote) (c .state) (Setup code number) ≡ reject code ∷ []
+    rejectionWanted sourceDemands (standing c) (Setup code number) ≡ reject code ∷ []
 wanted-late c code number symmetric live late = rw (setup-means c code number symmetric live, le-leb number (c .remote) late) (by-code (isClearing code))
   where
-    by-code : (b : Bool) → cond (not b) (rejection unsupported ∷ []) (rejection oldNumber ∷ []) ≡ rejection (cond b oldNumber unsupported) ∷ []
+    by-code : (b : Bool) → rejections (cond (not b) (unsupported ∷ []) (oldNumber ∷ [])) ≡ rejection (cond b oldNumber unsupported) ∷ []
     by-code true = refl
     by-code false = refl
 
 wanted-unsupported : (c : Call) (code : Switchover) (number : ℕ) → c .soft ≡ Symmetric → isNull (c .state) ≡ false → isClearing code ≡ false →
-    rejectionWanted (c .soft) (c .remote) (c .state) (Setup code number) ≡ reject code ∷ []
+    rejectionWanted sourceDemands (standing c) (Setup code number) ≡ reject code ∷ []
 wanted-unsupported c code number symmetric live other = rw (setup-means c code number symmetric live, other)
 
 -- a record replaced by itself
@@ -99,12 +101,12 @@ replaced-self k (c ∷ cs) = by-test (eqb (c .key) k) (replaced-self k cs)
 
 -- over a fit table, a setup whose rejection is wanted is answered 0 with it, and changes no record
 turned-away : (ys : Table) (k : ℕ) (code : Switchover) (number : ℕ) (r : Signal) → table.FitTable ys → (k ≡ 0 → ⊥) → table.onRecord k ys ≡ true →
-    rejectionWanted (table.callOf k ys .soft) (table.callOf k ys .remote) (table.callOf k ys .state) (Setup code number) ≡ r ∷ [] →
-    (table.answered ys k (Meets (Setup code number)) ≡ 0)
-    × ((ranOf ys k (Meets (Setup code number)) .done .signals ≡ places (r ∷ [])) × (tableOf ys k (Meets (Setup code number)) ≡ ys))
+    rejectionWanted sourceDemands (standing (table.callOf k ys)) (Setup code number) ≡ r ∷ [] →
+    (table.answered sourceHalf ys k (Meets (Setup code number)) ≡ 0)
+    × ((ranOf sourceHalf ys k (Meets (Setup code number)) .done .signals ≡ places (r ∷ [])) × (tableOf sourceHalf ys k (Meets (Setup code number)) ≡ ys))
 turned-away ys k code number r fit named here wanted =
     let left = rejected-setup-leaves-record (table.callOf k ys) (Setup code number) _ refl r wanted in
-    let done : table.answered ys k (Meets (Setup code number)) ≡ 0 =
+    let done : table.answered sourceHalf ys k (Meets (Setup code number)) ≡ 0 =
     answers-in-order ys k (Meets (Setup code number)) ∙ rw (fit-exactly ys .1 fit, ne-eqb k 0 named, here) (left .0) in
     let changed = event-changes-its-call ys k (Setup code number) done in
     (done, (changed .1 ∙ left .1 .1, changed .0 ∙ (ap (λ c. table.replacedFor k c ys) (left .1 .0) ∙ replaced-self k ys)))
@@ -129,28 +131,28 @@ is-setup Trigger n numbered = absurd (no-number numbered)
 is-setup PathFound n numbered = absurd (no-number numbered)
 is-setup NoPath n numbered = absurd (no-number numbered)
 is-setup (Connect k agreed) n numbered = absurd (no-number numbered)
-is-setup (FromCalling cause) n numbered = absurd (no-number numbered)
-is-setup (FromCalled k cause crankback) n numbered = absurd (no-number numbered)
+is-setup (FromParty cause) n numbered = absurd (no-number numbered)
+is-setup (FromDomain k cause crankback) n numbered = absurd (no-number numbered)
 is-setup Ready n numbered = absurd (no-number numbered)
 is-setup Expiry n numbered = absurd (no-number numbered)
 
 setup-rejected : (ys : Table) (a : Asked source) (code : Switchover) (number : ℕ) → table.FitTable ys → (a .key ≡ 0 → ⊥) → onRecord (source .key) (a .key) ys ≡ true →
-    rejectionWanted (callOf source (a .key) ys .soft) (callOf source (a .key) ys .remote) (callOf source (a .key) ys .state) (Setup code number) ≡ reject code ∷ [] →
+    rejectionWanted sourceDemands (standing (callOf source (a .key) ys)) (Setup code number) ≡ reject code ∷ [] →
     a .does ≡ meets (Setup code number) → Rejected source numbering ys a (ours ys a)
 setup-rejected ys a code number fit named here wanted is =
     let t = turned-away ys (a .key) code number (reject code) fit named here wanted in
     record {
       event = Setup code number;
       is = is;
-      answer = subst (λ d. answerNumber (ranOf ys (a .key) (actOf d) .done .answer) ≡ 0) (sym is) (t .0);
-      signals = subst (λ d. ranOf ys (a .key) (actOf d) .done .signals ≡ places (reject code ∷ [])) (sym is) (t .1 .0);
-      table = subst (λ d. tableOf ys (a .key) (actOf d) ≡ ys) (sym is) (t .1 .1);
+      answer = subst (λ d. answerNumber (ranOf sourceHalf ys (a .key) (actOf d) .done .answer) ≡ 0) (sym is) (t .0);
+      signals = subst (λ d. ranOf sourceHalf ys (a .key) (actOf d) .done .signals ≡ places (reject code ∷ [])) (sym is) (t .1 .0);
+      table = subst (λ d. tableOf sourceHalf ys (a .key) (actOf d) ≡ ys) (sym is) (t .1 .1);
     }
 
 -- a setup over a fit table whose rejection is wanted, with whatever code it has
 rejected-by : (ys : Table) (a : Asked source) (e : Event) (n : ℕ) → table.FitTable ys → SetupFor source numbering ys a e n →
     ((code : Switchover) → e ≡ Setup code n → callOf source (a .key) ys .soft ≡ Symmetric → isNull (callOf source (a .key) ys .state) ≡ false →
-    rejectionWanted (callOf source (a .key) ys .soft) (callOf source (a .key) ys .remote) (callOf source (a .key) ys .state) (Setup code n) ≡ reject code ∷ []) →
+    rejectionWanted sourceDemands (standing (callOf source (a .key) ys)) (Setup code n) ≡ reject code ∷ []) →
     Rejected source numbering ys a (ours ys a)
 rejected-by ys a e n fit setup wanted =
     let is = is-setup e n (setup .numbered) in

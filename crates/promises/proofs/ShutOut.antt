@@ -11,8 +11,8 @@ use Rattle.lent.specs.Search.{readFrom}
 use Rattle.signal.specs.declared.Signal.{Signal}
 use Rattle.signal.specs.Counting.{one, count, kindNumber}
 use Rattle.signal.specs.Signals.{none}
-use Rattle.source.specs.declared.Call.{Call}
-use Rattle.source.specs.Record.{emptied}
+use Rattle.call.specs.declared.Call.{Call}
+use Rattle.call.specs.Record.{emptied}
 use Rattle.runs.specs.Run.{Asked, Control, after, emptyTable, callOf}
 use Rattle.runs.specs.Account.{Log, nothing, oneTo, logged}
 use Rattle.runs.specs.Demand.{AccountAt}

@@ -1,15 +1,15 @@
 -- The promises over whole runs. "01" is the scope document, a demand one of the three in README.md. A run starts from an empty table; its
 -- requests are openings and events, each answered in turn by a control (runs, specs/Run). Each promise is a statement about any control,
 -- said in runs of any end of a call; that ours keeps it is the theorem of the same name in proofs/. Assumes nothing.
-use Prim.Native.Nat.{ℕ, _<_}
-use mathlib.Core.Path.{_≡_}
+use Prim.Native.Nat.{_<_, ℕ}
 use mathlib.Core.List.{List}
-use Rattle.source.specs.declared.Call.{Call}
-use Rattle.runs.specs.Run.{Asked, Control, emptyTable, RefusalsAreSilent}
+use mathlib.Core.Path.{_≡_}
+use Rattle.runs.specs.Run.{Asked, Control, RefusalsAreSilent, emptyTable}
 use Rattle.runs.specs.Woven.{Item, itself, woven}
+use Rattle.call.specs.declared.Call.{Call}
+use Rattle.promises.specs.Source.{document, numbering, ours, source}
 use Rattle.runs.specs.Demand as demand
 use Rattle.runs.specs.Exact as exact
-use Rattle.promises.specs.Source.{source, numbering, document, ours}
 
 abbrev pub Table : Type 0
 Table = List Call

@@ -1,25 +1,25 @@
 -- What demand 3 inserts is there: B4 and B5 of the bench run (01), and a late and an unsupported setup for every call with symmetric
 -- service. Without these the demand could be kept by saying nothing. Assumes nothing.
 use Prim.Native.Nat.{ℕ}
-use mathlib.Core.Path.{_≡_}
 use mathlib.Core.Bool.{true}
 use mathlib.Core.List.{List, [], _∷_}
+use mathlib.Core.Path.{_≡_}
 use Rattle.lent.specs.Keyed.{onRecord}
+use Rattle.runs.specs.Demand.{LateInserted}
+use Rattle.runs.specs.Late.{Late, Unsupported}
+use Rattle.runs.specs.Run.{Asked, Control, Reply, after, callOf, emptyTable, meets, opens, runOf}
+use Rattle.runs.specs.Woven.{Item, inserted, own}
+use Rattle.signal.specs.Causes.{oldNumber, unsupported}
+use Rattle.signal.specs.Signals.{places, rejection}
 use Rattle.signal.specs.declared.ReroutingCause.{ReroutingCause}
 use Rattle.signal.specs.declared.Soft.the-variants.{Symmetric}
 use Rattle.signal.specs.declared.Switchover.{Switchover}
 use Rattle.signal.specs.declared.Wanted.the-variants.{Named}
-use Rattle.signal.specs.Causes.{oldNumber, unsupported}
-use Rattle.signal.specs.Signals.{places, rejection}
-use Rattle.source_states.specs.declared.Event.the-variants.{Setup, Ready}
-use Rattle.source_states.specs.declared.State.the-variants.{Awaiting}
+use Rattle.events.specs.declared.Event.the-variants.{Ready, Setup}
+use Rattle.rows.specs.declared.State.the-variants.{Awaiting}
 use Rattle.source_table.specs.Bench.{clearing, immediate}
-use Rattle.runs.specs.Run.{opens, meets, Asked, Reply, Control, runOf, after, emptyTable, callOf}
-use Rattle.runs.specs.Woven.{Item, own, inserted}
-use Rattle.runs.specs.Late.{Late, Unsupported}
-use Rattle.runs.specs.Demand.{LateInserted}
-use Rattle.promises.specs.Source.{source, numbering, ours}
-use Rattle.promises.specs.Claims.{Table, DemandThree}
+use Rattle.promises.specs.Claims.{DemandThree, Table}
+use Rattle.promises.specs.Source.{numbering, ours, source}
 
 -- ---- the bench run, by key 7, over a table of one record
 abbrev pub b1 : Asked source

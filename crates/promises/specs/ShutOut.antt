@@ -2,34 +2,35 @@
 -- each in a way of its own. Each is a control like ours (the first four and how they differ from it are said in runs, specs/ShutOut, of any
 -- end); each breaks a promise that ours keeps, over a table and a request, or at a run, that are written out here. Proofs: proofs/ShutOut.
 -- Assumes nothing.
-use Prim.Native.Nat.{ℕ, zero, suc, _+_}
-use mathlib.Core.Path.{_≡_}
-use mathlib.Core.Bool.{Bool, true, false, _&&_, _||_, cond}
+use Prim.Native.Nat.{_+_, suc, zero, ℕ}
+use mathlib.Core.Bool.{Bool, _&&_, _||_, cond, false, true}
 use mathlib.Core.List.{List, [], _∷_, map}
+use mathlib.Core.Path.{_≡_}
 use lib.Dec.{eqb}
 use Rattle.lent.specs.Keyed.{replacedFor}
+use Rattle.runs.specs.Demand.{AccountAt, LateInserted}
+use Rattle.runs.specs.Exact.{AnswersAt, DoesAt}
+use Rattle.runs.specs.Late.{Harmless}
+use Rattle.runs.specs.Run.{Asked, Control, Does, Reply, callOf, emptyTable, meets, opens}
+use Rattle.runs.specs.Woven.{Item, inserted, own}
+use Rattle.signal.specs.Counting.{kindNumber}
+use Rattle.signal.specs.Signals.{none, setupOn}
 use Rattle.signal.specs.declared.Kind.the-variants.{SetupRequest}
 use Rattle.signal.specs.declared.Signal.{Signal}
 use Rattle.signal.specs.declared.Soft.the-variants.{Symmetric}
 use Rattle.signal.specs.declared.Wanted.{Wanted}
 use Rattle.signal.specs.declared.Wanted.the-variants.{Unnamed}
-use Rattle.signal.specs.Counting.{kindNumber}
-use Rattle.signal.specs.Signals.{none, setupOn}
-use Rattle.source_states.specs.declared.Event.{Event}
-use Rattle.source_states.specs.declared.Event.the-variants.{Trigger, PathFound, Connect, Ready}
-use Rattle.source_states.specs.declared.State.the-variants.{SoftInitiated}
-use Rattle.source_states.specs.States.{stateNumber}
-use Rattle.source_states.specs.Checks.{among}
-use Rattle.source.specs.declared.Call.{Call}
-use Rattle.runs.specs.Run.{Does, opens, meets, Asked, Reply, Control, emptyTable, callOf}
-use Rattle.runs.specs.Woven.{Item, own, inserted}
-use Rattle.runs.specs.Late.{Harmless}
-use Rattle.runs.specs.Demand.{AccountAt, LateInserted}
-use Rattle.runs.specs.Exact.{AnswersAt, DoesAt}
-use Rattle.runs.specs.ShutOut as control
-use Rattle.promises.specs.Source.{source, numbering, document, ours, setupNumber}
-use Rattle.promises.specs.Claims.{Table, DemandThree}
+use Rattle.events.specs.Events.{setupNumber}
+use Rattle.events.specs.declared.Event.{Event}
+use Rattle.events.specs.declared.Event.the-variants.{Connect, PathFound, Ready, Trigger}
+use Rattle.rows.specs.Checks.{among}
+use Rattle.rows.specs.States.{stateNumber}
+use Rattle.rows.specs.declared.State.the-variants.{SoftInitiated}
+use Rattle.call.specs.declared.Call.{Call}
+use Rattle.promises.specs.Claims.{DemandThree, Table}
 use Rattle.promises.specs.Inserted.{b1, b2, b3, b4}
+use Rattle.promises.specs.Source.{document, numbering, ours, source}
+use Rattle.runs.specs.ShutOut as control
 
 -- ---- the tables and requests
 -- an opening of key 7, over no record and over an empty one

@@ -1,30 +1,29 @@
 -- The source node's end of a call, and its control over a table: what `source_table::handle` is proved to do. Assumes nothing.
-use Prim.Native.Nat.{ℕ}
-use mathlib.Core.Bool.{Bool, true, false, cond}
+use mathlib.Core.Bool.{Bool, cond, false, true}
 use mathlib.Core.List.{List, [], _∷_}
-use Rattle.signal.specs.declared.Kind.the-variants.{SetupRequest}
-use Rattle.signal.specs.declared.Signal.{Signal}
-use Rattle.signal.specs.declared.Soft.{Soft}
-use Rattle.signal.specs.declared.Soft.the-variants.{NoSoft, Asymmetric, Symmetric}
-use Rattle.signal.specs.declared.Wanted.{Wanted}
-use Rattle.signal.specs.Causes.{unsupported, oldNumber}
+use Rattle.runs.specs.Exact.{Document}
+use Rattle.runs.specs.Late.{Numbering}
+use Rattle.runs.specs.Run.{Control, Does, End, meets, opens}
+use Rattle.signal.specs.Causes.{oldNumber, unsupported}
 use Rattle.signal.specs.Counting.{endedSent, named, ofKind}
 use Rattle.signal.specs.Numbers.{answerNumber, isClearing}
 use Rattle.signal.specs.Signals.{places, rejection}
-use Rattle.source_states.specs.declared.Event.{Event}
-use Rattle.source_states.specs.declared.Event.the-variants.{Trigger, PathFound, NoPath, Connect, Setup, FromCalling, FromCalled, Ready, Expiry}
-use Rattle.source_states.specs.States.{heldIn}
-use Rattle.source_states.specs.Checks.{reported}
-use Rattle.source.specs.declared.Call.{Call}
-use Rattle.source.specs.Record.{emptied, openedFor}
-use Rattle.source.specs.Events.{eventOf}
-use Rattle.source_table.specs.declared.Act.{Act}
-use Rattle.source_table.specs.declared.Act.the-variants.{Opens, Meets}
+use Rattle.signal.specs.declared.Kind.the-variants.{SetupRequest}
+use Rattle.signal.specs.declared.Signal.{Signal}
+use Rattle.signal.specs.declared.Soft.{Soft}
+use Rattle.signal.specs.declared.Soft.the-variants.{Asymmetric, NoSoft, Symmetric}
+use Rattle.signal.specs.declared.Wanted.{Wanted}
+use Rattle.events.specs.Events.{reported, setupNumber}
+use Rattle.events.specs.declared.Act.{Act}
+use Rattle.events.specs.declared.Act.the-variants.{Meets, Opens}
+use Rattle.events.specs.declared.Event.{Event}
+use Rattle.events.specs.declared.Event.the-variants.{Connect, Expiry, FromDomain, FromParty, NoPath, PathFound, Ready, Setup, Trigger}
+use Rattle.rows.specs.States.{heldIn}
+use Rattle.call.specs.Events.{eventOf, sourceHalf}
+use Rattle.call.specs.Record.{emptied, openedFor}
+use Rattle.call.specs.declared.Call.{Call}
+use Rattle.source_table.specs.Claims.{FirstOf, checks}
 use Rattle.source_table.specs.Table.{ranOf, tableOf}
-use Rattle.source_table.specs.Claims.{checks, FirstOf}
-use Rattle.runs.specs.Run.{End, Does, opens, meets, Control}
-use Rattle.runs.specs.Late.{Numbering}
-use Rattle.runs.specs.Exact.{Document}
 
 -- a call with symmetric service
 abbrev pub isSymmetric : Soft → Bool
@@ -51,25 +50,14 @@ source =
 
 -- its number check: a setup's number; calls with symmetric service take setups; "clearing" is the one switchover that is supported; a setup
 -- is turned away with #8 where it asks for another, and else with #5
-abbrev pub setupNumber : Event → List ℕ
-setupNumber Trigger = []
-setupNumber PathFound = []
-setupNumber NoPath = []
-setupNumber (Connect c agreed) = []
-setupNumber (Setup code number) = number ∷ []
-setupNumber (FromCalling cause) = []
-setupNumber (FromCalled c cause crankback) = []
-setupNumber Ready = []
-setupNumber Expiry = []
-
 abbrev pub asksSupported : Event → Bool
 asksSupported Trigger = true
 asksSupported PathFound = true
 asksSupported NoPath = true
 asksSupported (Connect c agreed) = true
 asksSupported (Setup code number) = isClearing code
-asksSupported (FromCalling cause) = true
-asksSupported (FromCalled c cause crankback) = true
+asksSupported (FromParty cause) = true
+asksSupported (FromDomain c cause crankback) = true
 asksSupported Ready = true
 asksSupported Expiry = true
 
@@ -92,7 +80,7 @@ actOf (meets e) = Meets e
 abbrev pub document : Document source
 document =
     record {
-      Answers = λ ys a n. FirstOf n (checks ys (a .key) (actOf (a .does)));
+      Answers = λ ys a n. FirstOf n (checks sourceHalf ys (a .key) (actOf (a .does)));
       newCall = λ k w. openedFor k w .call;
       newSent = λ k w. openedFor k w .signals;
       metCall = λ c e. eventOf c e .call;
@@ -103,7 +91,7 @@ document =
 abbrev pub ours : Control source
 ours ys a =
     record {
-      answer = answerNumber (ranOf ys (a .key) (actOf (a .does)) .done .answer);
-      signals = ranOf ys (a .key) (actOf (a .does)) .done .signals;
-      table = tableOf ys (a .key) (actOf (a .does));
+      answer = answerNumber (ranOf sourceHalf ys (a .key) (actOf (a .does)) .done .answer);
+      signals = ranOf sourceHalf ys (a .key) (actOf (a .does)) .done .signals;
+      table = tableOf sourceHalf ys (a .key) (actOf (a .does));
     }

@@ -19,10 +19,10 @@ use Rattle.signal.specs.declared.Soft.{Soft}
 use Rattle.signal.specs.declared.Soft.the-variants.{NoSoft, Asymmetric, Symmetric}
 use Rattle.signal.specs.declared.Wanted.{Wanted}
 use Rattle.signal.specs.declared.Wanted.the-variants.{Unnamed, Named}
-use Rattle.source_states.specs.declared.Event.{Event}
-use Rattle.source_states.specs.declared.Event.the-variants.{Trigger, PathFound, NoPath, Connect, Setup, FromCalling, FromCalled, Ready, Expiry}
-use Rattle.source_table.specs.declared.Act.{Act}
-use Rattle.source_table.specs.declared.Act.the-variants.{Opens, Meets}
+use Rattle.events.specs.declared.Event.{Event}
+use Rattle.events.specs.declared.Event.the-variants.{Trigger, PathFound, NoPath, Connect, Setup, FromParty, FromDomain, Ready, Expiry}
+use Rattle.events.specs.declared.Act.{Act}
+use Rattle.events.specs.declared.Act.the-variants.{Opens, Meets}
 use Rattle.event_record.specs.Claims.{Fits, CauseFits}
 use Rattle.event_record.proofs.Claims.{read-back}
 use Rattle.event_words.specs.Words.{thenNumber, hardText, softText, wantedText, policyText, codeText, causeText, crankbackText, valuesText, restText, eventText}
@@ -62,9 +62,9 @@ event-parted PathFound = tt
 event-parted NoPath = tt
 event-parted (Connect c policy) = refl
 event-parted (Setup s n) = code-parted (s .code) (thenNumber n)
-event-parted (FromCalling NoCause) = tt
-event-parted (FromCalling (WithCause c)) = refl
-event-parted (FromCalled c cause back) = refl
+event-parted (FromParty NoCause) = tt
+event-parted (FromParty (WithCause c)) = refl
+event-parted (FromDomain c cause back) = refl
 event-parted Ready = tt
 event-parted Expiry = tt
 
@@ -137,12 +137,12 @@ setups key code n c h = by-tests (eqb code 0) (eqb code 1) refl refl
         rw (number-first code (thenNumber n) refl, number-no-name code 99 _ (omega arith), number-no-name code 105 _ (omega arith), number-reads 255 code (omega arith), number-after code (thenNumber n) refl)
         (incarnation-told key code n h)
 
-calling-told : (key : ℕ) (cause : ReceivedCause) → CauseFits cause → callingOf key (causeText cause) ≡ Told key (Meets (FromCalling cause))
+calling-told : (key : ℕ) (cause : ReceivedCause) → CauseFits cause → callingOf key (causeText cause) ≡ Told key (Meets (FromParty cause))
 unfolding callingOf callingCauseOf endOf firstWord afterWord
 calling-told key NoCause h = refl
-calling-told key (WithCause c) h = ap (callingCauseOf key) (at-end (c .number)) ∙ reads 255 (c .number) ACause [] (λ n rest. endOf key (Meets (FromCalling (WithCause (record { number = n })))) rest) (omega arith) tt
+calling-told key (WithCause c) h = ap (callingCauseOf key) (at-end (c .number)) ∙ reads 255 (c .number) ACause [] (λ n rest. endOf key (Meets (FromParty (WithCause (record { number = n })))) rest) (omega arith) tt
 
-crankback-told : (key c : ℕ) (cause : ReceivedCause) (what : What) (back : Crankback) → crankbackOf key c cause what (crankbackText back) ≡ Told key (Meets (FromCalled c cause back))
+crankback-told : (key c : ℕ) (cause : ReceivedCause) (what : What) (back : Crankback) → crankbackOf key c cause what (crankbackText back) ≡ Told key (Meets (FromDomain c cause back))
 unfolding crankbackOf endOf firstWord afterWord
 crankback-told key c cause what NoCrankback = refl
 crankback-told key c cause what AlternateFound = refl
@@ -154,14 +154,14 @@ no-cause-told key c NoCrankback = refl
 no-cause-told key c AlternateFound = refl
 no-cause-told key c NoAlternate = refl
 
-release-told : (key c : ℕ) (cause : ReceivedCause) (back : Crankback) → CauseFits cause → releaseOf key c (causeText cause ++ crankbackText back) ≡ Told key (Meets (FromCalled c cause back))
+release-told : (key c : ℕ) (cause : ReceivedCause) (back : Crankback) → CauseFits cause → releaseOf key c (causeText cause ++ crankbackText back) ≡ Told key (Meets (FromDomain c cause back))
 unfolding releaseOf calledCauseOf firstWord afterWord
 release-told key c NoCause back h = no-cause-told key c back ∙ crankback-told key c NoCause CauseCrankbackOrEnd back
 release-told key c (WithCause cause) back h =
     reads 255 (cause .number) ACause (crankbackText back) (λ n rest. crankbackOf key c (WithCause (record { number = n })) CrankbackOrEnd rest) (omega arith) (crankback-parted back)
     ∙ crankback-told key c (WithCause cause) CrankbackOrEnd back
 
-called-told : (key c : ℕ) (cause : ReceivedCause) (back : Crankback) → c < 65536 → CauseFits cause → calledOf key (thenNumber c ++ (causeText cause ++ crankbackText back)) ≡ Told key (Meets (FromCalled c cause back))
+called-told : (key c : ℕ) (cause : ReceivedCause) (back : Crankback) → c < 65536 → CauseFits cause → calledOf key (thenNumber c ++ (causeText cause ++ crankbackText back)) ≡ Told key (Meets (FromDomain c cause back))
 unfolding calledOf
 called-told key c cause back h f =
     reads 65535 c AConnection (causeText cause ++ crankbackText back) (λ n rest. releaseOf key n rest) (omega arith) (cause-parted cause back)
@@ -183,8 +183,8 @@ event-told key PathFound h = keyed-told PathName key [] (h .0) tt ∙ nothing-to
 event-told key NoPath h = keyed-told NoPathName key [] (h .0) tt ∙ nothing-told key (Meets NoPath)
 event-told key (Connect c policy) h = keyed-told ConnectName key _ (h .0) (event-parted (Connect c policy)) ∙ connects key c policy (h .1)
 event-told key (Setup s n) h = keyed-told SetupName key _ (h .0) (event-parted (Setup s n)) ∙ setups key (s .code) n (h .1 .0) (h .1 .1)
-event-told key (FromCalling cause) h = keyed-told CallingName key _ (h .0) (event-parted (FromCalling cause)) ∙ calling-told key cause (h .1)
-event-told key (FromCalled c cause back) h = keyed-told CalledName key _ (h .0) (event-parted (FromCalled c cause back)) ∙ called-told key c cause back (h .1 .0) (h .1 .1)
+event-told key (FromParty cause) h = keyed-told CallingName key _ (h .0) (event-parted (FromParty cause)) ∙ calling-told key cause (h .1)
+event-told key (FromDomain c cause back) h = keyed-told CalledName key _ (h .0) (event-parted (FromDomain c cause back)) ∙ called-told key c cause back (h .1 .0) (h .1 .1)
 event-told key Ready h = keyed-told ReadyName key [] (h .0) tt ∙ nothing-told key (Meets Ready)
 event-told key Expiry h = keyed-told ExpiryName key [] (h .0) tt ∙ nothing-told key (Meets Expiry)
 

@@ -11,7 +11,7 @@ use Rattle.line_words.specs.declared.Reading.the-variants.{Counts, NoNumber}
 use Rattle.line_words.proofs.Numbers.{at-most}
 use Rattle.signal.specs.declared.ReceivedCause.{ReceivedCause}
 use Rattle.signal.specs.declared.ReceivedCause.the-variants.{NoCause, WithCause}
-use Rattle.source_table.specs.declared.Act.{Act}
+use Rattle.events.specs.declared.Act.{Act}
 use Rattle.event_record.specs.Claims.{CauseFits, Fits}
 use Rattle.script_words.specs.declared.What.{What}
 use Rattle.script_line.specs.declared.Name.{Name}

@@ -6,7 +6,7 @@ use mathlib.Core.List.{List, _++_}
 use mathlib.Core.Logic.{_⊎_, ⊎-elim}
 use Rattle.line_words.specs.Words.{firstWord, afterWord}
 use Rattle.signal.specs.declared.ReceivedCause.{ReceivedCause}
-use Rattle.source_table.specs.declared.Act.{Act}
+use Rattle.events.specs.declared.Act.{Act}
 use Rattle.script_words.specs.declared.What.{What}
 use Rattle.script_line.specs.declared.Name.{Name}
 use Rattle.script_line.specs.declared.Name.the-variants.{OpenName, TriggerName, PathName, NoPathName, ConnectName, SetupName, CallingName, CalledName, ReadyName, ExpiryName}

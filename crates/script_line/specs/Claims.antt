@@ -5,7 +5,7 @@ use mathlib.Core.Bool.{true}
 use mathlib.Core.List.{List, [], _∷_, _++_}
 use Rattle.lines.specs.Lines.{ascii}
 use Rattle.line_words.specs.Words.{isBlank}
-use Rattle.source_table.specs.declared.Act.{Act}
+use Rattle.events.specs.declared.Act.{Act}
 use Rattle.event_record.specs.Record.{decodedOf}
 use Rattle.event_record.specs.Encoded.{recordOf}
 use Rattle.event_record.specs.Claims.{Fits}

@@ -14,9 +14,9 @@ use Rattle.signal.specs.declared.ReceivedCause.the-variants.{NoCause, WithCause
 use Rattle.signal.specs.declared.Soft.{Soft}
 use Rattle.signal.specs.declared.Soft.the-variants.{NoSoft, Asymmetric, Symmetric}
 use Rattle.signal.specs.declared.Wanted.the-variants.{Unnamed, Named as With}
-use Rattle.source_states.specs.declared.Event.the-variants.{Trigger, PathFound, NoPath, Connect, Setup, FromCalling, FromCalled, Ready, Expiry}
-use Rattle.source_table.specs.declared.Act.{Act}
-use Rattle.source_table.specs.declared.Act.the-variants.{Opens, Meets}
+use Rattle.events.specs.declared.Event.the-variants.{Trigger, PathFound, NoPath, Connect, Setup, FromParty, FromDomain, Ready, Expiry}
+use Rattle.events.specs.declared.Act.{Act}
+use Rattle.events.specs.declared.Act.the-variants.{Opens, Meets}
 use Rattle.script_line.specs.declared.Parsed.{Parsed}
 use Rattle.script_line.specs.declared.Parsed.the-variants.{Wordless, Told, Expected}
 use Rattle.script_line.specs.declared.Name.{Name}
@@ -88,19 +88,19 @@ setupOf key rest = withNumber (codeOf (firstWord rest)) ASwitchover (λ code. in
 
 unfoldable pub callingCauseOf : ℕ → List ℕ → Parsed
 callingCauseOf key rest =
-    withNumber (numberIn 255 (firstWord rest)) ACause (λ n. endOf key (Meets (FromCalling (WithCause (record { number = n })))) (afterWord rest))
+    withNumber (numberIn 255 (firstWord rest)) ACause (λ n. endOf key (Meets (FromParty (WithCause (record { number = n })))) (afterWord rest))
 
 unfoldable pub callingOf : ℕ → List ℕ → Parsed
 callingOf key rest =
-    cond (isWord (firstWord rest) "") (Told key (Meets (FromCalling NoCause)))
+    cond (isWord (firstWord rest) "") (Told key (Meets (FromParty NoCause)))
     (cond (isWord (firstWord rest) "cause") (callingCauseOf key (afterWord rest)) (Expected CauseOrEnd))
 
 -- the crankback of a release, or nothing; what else was expected depends on what stands before
 unfoldable pub crankbackOf : ℕ → ℕ → ReceivedCause → What → List ℕ → Parsed
 crankbackOf key connection cause what rest =
-    cond (isWord (firstWord rest) "") (Told key (Meets (FromCalled connection cause NoCrankback)))
-    (cond (isWord (firstWord rest) "alternate") (endOf key (Meets (FromCalled connection cause AlternateFound)) (afterWord rest))
-    (cond (isWord (firstWord rest) "noalternate") (endOf key (Meets (FromCalled connection cause NoAlternate)) (afterWord rest)) (Expected what)))
+    cond (isWord (firstWord rest) "") (Told key (Meets (FromDomain connection cause NoCrankback)))
+    (cond (isWord (firstWord rest) "alternate") (endOf key (Meets (FromDomain connection cause AlternateFound)) (afterWord rest))
+    (cond (isWord (firstWord rest) "noalternate") (endOf key (Meets (FromDomain connection cause NoAlternate)) (afterWord rest)) (Expected what)))
 
 unfoldable pub calledCauseOf : ℕ → ℕ → List ℕ → Parsed
 calledCauseOf key connection rest =

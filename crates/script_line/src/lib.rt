@@ -5,6 +5,8 @@ ghost use mathlib.Core.Path.{_≡_};
 ghost use lib.ListN.{drop};
 ghost use Rattle.line_words.specs.Words.{firstWord};
 ghost use Rattle.script_line.specs.Script.{nameOf, endOf, servicesOf, softOf, openOf, policyOf, connectOf, codeOf, incarnationOf, setupOf, callingCauseOf, callingOf, crankbackOf, calledCauseOf, releaseOf, calledOf, argumentsOf, keyedOf, parsedOf};
+use events::Act;
+use events::Event;
 use line_words::Reading;
 use line_words::after;
 use line_words::is;
@@ -17,8 +19,6 @@ use signal::Services;
 use signal::Soft;
 use signal::Switchover;
 use signal::Wanted;
-use source::Event;
-use source_table::Act;
 
 pub enum Parsed {
     // no words
@@ -178,7 +178,7 @@ fn calling_cause(line: &[u8], at: usize, key: u32) -> Parsed
                 line,
                 after(line, at),
                 key,
-                Act::Meets(Event::FromCalling(received)),
+                Act::Meets(Event::FromParty(received)),
             )
         }
     }
@@ -188,7 +188,7 @@ fn calling(line: &[u8], at: usize, key: u32) -> Parsed
     ensures { λ r. ⌜ r ≡ callingOf key (drop at (now (line .entry))) ⌝ }
 {
     if is(line, at, b"") {
-        return Parsed::Told(key, Act::Meets(Event::FromCalling(ReceivedCause::NoCause)));
+        return Parsed::Told(key, Act::Meets(Event::FromParty(ReceivedCause::NoCause)));
     }
     if is(line, at, b"cause") {
         return calling_cause(line, after(line, at), key);
@@ -210,7 +210,7 @@ fn crankback(
     if is(line, at, b"") {
         return Parsed::Told(
             key,
-            Act::Meets(Event::FromCalled(connection, cause, Crankback::NoCrankback)),
+            Act::Meets(Event::FromDomain(connection, cause, Crankback::NoCrankback)),
         );
     }
     if is(line, at, b"alternate") {
@@ -218,7 +218,7 @@ fn crankback(
             line,
             after(line, at),
             key,
-            Act::Meets(Event::FromCalled(connection, cause, Crankback::AlternateFound)),
+            Act::Meets(Event::FromDomain(connection, cause, Crankback::AlternateFound)),
         );
     }
     if is(line, at, b"noalternate") {
@@ -226,7 +226,7 @@ fn crankback(
             line,
             after(line, at),
             key,
-            Act::Meets(Event::FromCalled(connection, cause, Crankback::NoAlternate)),
+            Act::Meets(Event::FromDomain(connection, cause, Crankback::NoAlternate)),
         );
     }
     Parsed::Expected(what)

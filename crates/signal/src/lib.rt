@@ -5,7 +5,7 @@
 //
 // Everything here is plain data by value. The meanings stand in specs/: Causes, Signals, Numbers.
 ghost use mathlib.Core.Path.{_≡_};
-ghost use Rattle.signal.specs.Causes.{forwarded, restated, passed};
+ghost use Rattle.signal.specs.Causes.{asReceived, passed};
 ghost use Rattle.signal.specs.Signals.{naming, releaseWith, rejection};
 ghost use Rattle.signal.specs.Numbers.{answerNumber, softNumber, freshAfter, isLate, isClearing, servicesOf};
 
@@ -48,33 +48,13 @@ pub enum ReceivedCause {
 }
 
 impl ReceivedCause {
-    // #1 goes on as it came, and any other as #2 (6.2.4.2 case 3, 6.2.4.4 case 3).
-    pub fn forwarded(self) -> SentCause
-        ensures { λ r. ⌜ r ≡ forwarded self ⌝ }
+    // A cause goes on as it came.
+    pub fn as_received(self) -> SentCause
+        ensures { λ r. ⌜ r ≡ asReceived self ⌝ }
     {
         match self {
             ReceivedCause::NoCause => SentCause::Absent,
-            ReceivedCause::WithCause(cause) => {
-                if cause.number == 1 {
-                    return SentCause::AsReceived(cause);
-                }
-                SentCause::Numbered(ReroutingCause::NOT_RECOVERED)
-            }
-        }
-    }
-
-    // #1 is said again as the number 1, and any other as 2 (01, the table of called-side releases).
-    pub fn restated(self) -> SentCause
-        ensures { λ r. ⌜ r ≡ restated self ⌝ }
-    {
-        match self {
-            ReceivedCause::NoCause => SentCause::Absent,
-            ReceivedCause::WithCause(cause) => {
-                if cause.number == 1 {
-                    return SentCause::Numbered(ReroutingCause::OUTSIDE);
-                }
-                SentCause::Numbered(ReroutingCause::NOT_RECOVERED)
-            }
+            ReceivedCause::WithCause(received) => SentCause::AsReceived(received),
         }
     }
 

@@ -1,6 +1,12 @@
 // A release from the calling side: every call ends.
 ghost use mathlib.Core.Path.{_≡_};
-ghost use Rattle.source_endings.specs.Calling.{callingRow, incumbentEnded, bothEnded, softTriggeredCause};
+ghost use Rattle.rows.specs.Cases.{classOf};
+ghost use Rattle.rows.specs.Effects.{said};
+ghost use Rattle.source_rows.specs.Rows.{softTriggeredPassing};
+ghost use Rattle.source_endings.specs.Effects.{callingEffect, incumbentEnded, bothEndedWith};
+use rows::Class;
+use rows::Effect;
+use rows::State;
 use signal::Answer;
 use signal::CauseCode;
 use signal::Kind;
@@ -8,26 +14,25 @@ use signal::ReceivedCause;
 use signal::ReroutingCause;
 use signal::SentCause;
 use signal::Signal;
-use source_states::Change;
-use source_states::Row;
-use source_states::State;
 
 // Normal call clearing in Soft Triggered reads the cause only to see whether one came (6.2.4.1 case 1).
 fn soft_triggered_cause(hard: bool, cause: ReceivedCause) -> SentCause
-    ensures { λ r. ⌜ r ≡ softTriggeredCause hard cause ⌝ }
+    ensures { λ r. ⌜ r ≡ said cause (softTriggeredPassing hard (classOf cause)) ⌝ }
 {
-    match cause {
-        ReceivedCause::NoCause => {
+    match rows::class_of(cause) {
+        Class::CameNone => {
             if hard {
                 return SentCause::Numbered(ReroutingCause::OUTSIDE);
             }
             SentCause::Absent
         }
-        ReceivedCause::WithCause(_) => SentCause::Absent,
+        Class::CameOutside => SentCause::Absent,
+        Class::CameComplete => SentCause::Absent,
+        Class::CameOther => SentCause::Absent,
     }
 }
 
-fn incumbent_ended(incumbent: u16, cause: SentCause) -> Row
+fn incumbent_ended(incumbent: u16, cause: SentCause) -> Effect
     ensures { λ r. ⌜ r ≡ incumbentEnded incumbent cause ⌝ }
 {
     let sent = Signal::release(
@@ -36,53 +41,59 @@ fn incumbent_ended(incumbent: u16, cause: SentCause) -> Row
         cause,
         CauseCode::Section66,
     );
-    Row::decided(Change::Ends, sent, Signal::NONE)
+    Effect::done(State::Null, sent, Signal::NONE, Signal::NONE)
 }
 
-fn both_ended(hard: bool, cause: ReceivedCause, incumbent: u16, rerouting: u16) -> Row
-    ensures { λ r. ⌜ r ≡ bothEnded hard cause incumbent rerouting ⌝ }
+fn both_ended_with(incumbent: u16, rerouting: u16, cause: SentCause) -> Effect
+    ensures { λ r. ⌜ r ≡ bothEndedWith incumbent rerouting cause ⌝ }
 {
-    let sent = cause.passed(hard);
     let first = Signal::release(
         Kind::IncumbentRelease,
         incumbent,
-        sent,
+        cause,
         CauseCode::Section66,
     );
     let second = Signal::release(
         Kind::ReroutingRelease,
         rerouting,
-        sent,
+        cause,
         CauseCode::Section66,
     );
-    Row::decided(Change::Ends, first, second)
+    Effect::done(State::Null, first, second, Signal::NONE)
 }
 
-pub fn calling_row(hard: bool, cause: ReceivedCause, state: State) -> Row
-    ensures { λ r. ⌜ r ≡ callingRow hard cause state ⌝ }
+pub fn calling_row(hard: bool, cause: ReceivedCause, state: State) -> Effect
+    ensures { λ r. ⌜ r ≡ callingEffect hard cause state ⌝ }
 {
     match state {
-        State::Null => Row::refused(Answer::NoMeaning),
+        State::Null => Effect::refused(Answer::NoMeaning, state),
         State::Idle(incumbent) => incumbent_ended(incumbent, cause.passed(hard)),
-        State::HardTriggered => Row::decided(Change::Ends, Signal::TIMER_STOP, Signal::NONE),
-        State::HardProceeding(rerouting) => {
+        State::HardWaiting => Effect::done(
+            State::Null,
+            Signal::TIMER_STOP,
+            Signal::NONE,
+            Signal::NONE,
+        ),
+        State::HardUnderway(rerouting) => {
             let sent = Signal::release(
                 Kind::ReroutingRelease,
                 rerouting,
                 cause.passed(true),
                 CauseCode::Section66,
             );
-            Row::decided(Change::Ends, Signal::TIMER_STOP, sent)
+            Effect::done(State::Null, Signal::TIMER_STOP, sent, Signal::NONE)
         }
         State::SoftTriggered(incumbent) => {
             incumbent_ended(incumbent, soft_triggered_cause(hard, cause))
         }
         State::SoftProceeding(incumbent, rerouting) => {
-            both_ended(hard, cause, incumbent, rerouting)
+            both_ended_with(incumbent, rerouting, cause.passed(hard))
         }
         State::SoftInitiated(incumbent, rerouting) => {
-            both_ended(hard, cause, incumbent, rerouting)
+            both_ended_with(incumbent, rerouting, cause.passed(hard))
         }
-        State::Awaiting(incumbent, rerouting) => both_ended(hard, cause, incumbent, rerouting),
+        State::Awaiting(incumbent, rerouting) => {
+            both_ended_with(incumbent, rerouting, cause.passed(hard))
+        }
     }
 }

@@ -1,6 +1,14 @@
-// A release from the called side, for one connection: a function for each state and connection, then the row.
+// The rows of a release from the called side, for a connection (6.2.4), as direct code: each function returns the row of the page, carried out.
 ghost use mathlib.Core.Path.{_≡_};
-ghost use Rattle.source_releases.specs.Called.{calledRow, ifHeld, byConnection, idleLost, softTriggeredLost, hardGivenUp, hardAlternate, hardAgain, hardProceedingLost, bothReleased, softProceedingLost, backToIdle, softAlternate, softCrankback, softInitiatedLost, awaitingIncumbentLost, awaitingReroutingLost};
+ghost use Rattle.signal.specs.Signals.{none};
+ghost use Rattle.rows.specs.declared.State.the-variants.{Idle, HardUnderway, SoftProceeding, SoftInitiated, Awaiting};
+ghost use Rattle.rows.specs.Cases.{classOf};
+ghost use Rattle.rows.specs.Effects.{doneIn, isNext};
+ghost use Rattle.source_rows.specs.Rows.{atSource, idleLost, hardAgain, hardAlternate, hardLost, softLost, softCrankback, initiatedLost, awaitingLost, awaitingDropped};
+ghost use Rattle.source_releases.specs.Effects.{calledEffect, idleCalled, initiatedCalled, awaitingCalled, toldOnly, toldBoth, hardEnded, toldAndReleased};
+use rows::Class;
+use rows::Effect;
+use rows::State;
 use signal::Answer;
 use signal::CauseCode;
 use signal::Crankback;
@@ -10,108 +18,16 @@ use signal::ReceivedCause;
 use signal::ReroutingCause;
 use signal::SentCause;
 use signal::Signal;
-use source_states::Change;
-use source_states::Row;
-use source_states::State;
 
-// 6.2.4.2 cases 3 and 4
-fn idle_lost(hard: bool, cause: ReceivedCause) -> Row
-    ensures { λ r. ⌜ r ≡ idleLost hard cause ⌝ }
+fn told_only(cause: SentCause) -> Effect
+    ensures { λ r. ⌜ r ≡ toldOnly cause ⌝ }
 {
-    let calling = Signal::release(
-        Kind::CallingRelease,
-        0,
-        cause.forwarded(),
-        CauseCode::Section66,
-    );
-    match cause {
-        ReceivedCause::NoCause => {
-            if hard {
-                let next = Change::Moves(State::HardTriggered);
-                return Row::decided(next, Signal::TIMER_START, Signal::NONE);
-            }
-            Row::decided(Change::Ends, calling, Signal::NONE)
-        }
-        ReceivedCause::WithCause(_) => Row::decided(Change::Ends, calling, Signal::NONE),
-    }
+    let calling = Signal::release(Kind::CallingRelease, 0, cause, CauseCode::Section66);
+    Effect::done(State::Null, calling, Signal::NONE, Signal::NONE)
 }
 
-// 6.2.4.5: normal call clearing, which reads neither the hard service nor the cause
-fn soft_triggered_lost(hard: bool, cause: ReceivedCause) -> Row
-    ensures { λ r. ⌜ r ≡ softTriggeredLost hard cause ⌝ }
-{
-    let calling = Signal::release(
-        Kind::CallingRelease,
-        0,
-        SentCause::Absent,
-        CauseCode::Section66,
-    );
-    Row::decided(Change::Ends, calling, Signal::NONE)
-}
-
-// 6.2.4.4 case 5
-fn hard_given_up() -> Row
-    ensures { λ r. ⌜ r ≡ hardGivenUp ⌝ }
-{
-    let failed = SentCause::Numbered(ReroutingCause::NOT_RECOVERED);
-    let calling = Signal::release(Kind::CallingRelease, 0, failed, CauseCode::Section66);
-    Row::decided(Change::Ends, Signal::TIMER_STOP, calling)
-}
-
-// 6.2.4.4 case 4
-fn hard_alternate(next: Fresh) -> Row
-    ensures { λ r. ⌜ r ≡ hardAlternate next ⌝ }
-{
-    match next {
-        Fresh::Next(number) => {
-            let setup = Signal::naming(Kind::SetupRequest, number);
-            let change = Change::Gives(State::HardProceeding(number), number);
-            Row::decided(change, setup, Signal::NONE)
-        }
-        Fresh::Spent => hard_given_up(),
-    }
-}
-
-// 6.2.4.4 case 6
-fn hard_again(next: Fresh) -> Row
-    ensures { λ r. ⌜ r ≡ hardAgain next ⌝ }
-{
-    match next {
-        Fresh::Next(_) => {
-            let change = Change::Moves(State::HardTriggered);
-            Row::decided(change, Signal::NONE, Signal::NONE)
-        }
-        Fresh::Spent => hard_given_up(),
-    }
-}
-
-// 6.2.4.4 cases 3 to 6
-fn hard_proceeding_lost(cause: ReceivedCause, crankback: Crankback, next: Fresh) -> Row
-    ensures { λ r. ⌜ r ≡ hardProceedingLost cause crankback next ⌝ }
-{
-    match cause {
-        ReceivedCause::NoCause => {
-            match crankback {
-                Crankback::NoCrankback => hard_again(next),
-                Crankback::AlternateFound => hard_alternate(next),
-                Crankback::NoAlternate => hard_given_up(),
-            }
-        }
-        ReceivedCause::WithCause(_) => {
-            let calling = Signal::release(
-                Kind::CallingRelease,
-                0,
-                cause.forwarded(),
-                CauseCode::Section66,
-            );
-            Row::decided(Change::Ends, Signal::TIMER_STOP, calling)
-        }
-    }
-}
-
-// The calling side and the rerouting connection are released with one cause, and the call ends.
-fn both_released(rerouting: u16, cause: SentCause) -> Row
-    ensures { λ r. ⌜ r ≡ bothReleased rerouting cause ⌝ }
+fn told_both(rerouting: u16, cause: SentCause) -> Effect
+    ensures { λ r. ⌜ r ≡ toldBoth rerouting cause ⌝ }
 {
     let calling = Signal::release(Kind::CallingRelease, 0, cause, CauseCode::Section66);
     let other = Signal::release(
@@ -120,141 +36,321 @@ fn both_released(rerouting: u16, cause: SentCause) -> Row
         cause,
         CauseCode::Section66,
     );
-    Row::decided(Change::Ends, calling, other)
+    Effect::done(State::Null, calling, other, Signal::NONE)
 }
 
-// D17
-fn soft_proceeding_lost(hard: bool, cause: ReceivedCause, rerouting: u16) -> Row
-    ensures { λ r. ⌜ r ≡ softProceedingLost hard cause rerouting ⌝ }
+// 6.2.4.2 cases 3 and 4
+fn idle_lost(hard: bool, cause: ReceivedCause, incumbent: u16, next: Fresh) -> Effect
+    ensures { λ r. ⌜ r ≡ atSource (Idle incumbent) next cause (idleLost hard (classOf cause)) ⌝ }
 {
-    if hard {
-        match cause {
-            ReceivedCause::NoCause => {
-                let change = Change::Moves(State::HardProceeding(rerouting));
-                Row::decided(change, Signal::TIMER_START, Signal::NONE)
+    match rows::class_of(cause) {
+        Class::CameNone => {
+            if hard {
+                return Effect::done(
+                    State::HardWaiting,
+                    Signal::TIMER_START,
+                    Signal::NONE,
+                    Signal::NONE,
+                );
             }
-            ReceivedCause::WithCause(_) => both_released(rerouting, cause.restated()),
+            told_only(SentCause::Absent)
         }
-    } else {
-        both_released(rerouting, SentCause::Absent)
+        Class::CameOutside => told_only(cause.as_received()),
+        Class::CameComplete => told_only(SentCause::Numbered(ReroutingCause::NOT_RECOVERED)),
+        Class::CameOther => told_only(SentCause::Numbered(ReroutingCause::NOT_RECOVERED)),
     }
 }
 
-// 6.2.4.6 case 5
-fn soft_alternate(incumbent: u16, next: Fresh) -> Row
-    ensures { λ r. ⌜ r ≡ softAlternate incumbent next ⌝ }
+fn hard_ended(cause: SentCause) -> Effect
+    ensures { λ r. ⌜ r ≡ hardEnded cause ⌝ }
+{
+    let calling = Signal::release(Kind::CallingRelease, 0, cause, CauseCode::Section66);
+    Effect::done(State::Null, Signal::TIMER_STOP, calling, Signal::NONE)
+}
+
+// 6.2.4.4 case 6, the node's choice: it tries again.
+fn hard_again(cause: ReceivedCause, next: Fresh, rerouting: u16) -> Effect
+    ensures { λ r. ⌜ r ≡ atSource (HardUnderway rerouting) next cause (hardAgain (isNext next)) ⌝ }
+{
+    match next {
+        Fresh::Next(_) => {
+            Effect::done(State::HardWaiting, Signal::NONE, Signal::NONE, Signal::NONE)
+        }
+        Fresh::Spent => hard_ended(SentCause::Numbered(ReroutingCause::NOT_RECOVERED)),
+    }
+}
+
+// Case 4: a retry over an alternate path.
+fn hard_alternate(cause: ReceivedCause, next: Fresh, rerouting: u16) -> Effect
+    ensures { λ r. ⌜ r ≡ atSource (HardUnderway rerouting) next cause (hardAlternate (isNext next)) ⌝ }
 {
     match next {
         Fresh::Next(number) => {
             let setup = Signal::naming(Kind::SetupRequest, number);
-            let change = Change::Gives(State::SoftProceeding(incumbent, number), number);
-            Row::decided(change, setup, Signal::NONE)
+            Effect::given(
+                State::HardUnderway(number),
+                false,
+                setup,
+                Signal::NONE,
+                Signal::NONE,
+            )
         }
-        Fresh::Spent => back_to_idle(incumbent),
+        Fresh::Spent => hard_ended(SentCause::Numbered(ReroutingCause::NOT_RECOVERED)),
     }
 }
 
-// 6.2.4.6 case 6: the soft reroute is given up, and the incumbent stays.
-fn back_to_idle(incumbent: u16) -> Row
-    ensures { λ r. ⌜ r ≡ backToIdle incumbent ⌝ }
+// Cases 3 to 6: a cause comes before crankback.
+fn hard_lost(cause: ReceivedCause, crankback: Crankback, next: Fresh, rerouting: u16) -> Effect
+    ensures { λ r. ⌜ r ≡ atSource (HardUnderway rerouting) next cause (hardLost (classOf cause) crankback (isNext next)) ⌝ }
 {
-    let change = Change::Moves(State::Idle(incumbent));
-    Row::decided(change, Signal::NONE, Signal::NONE)
+    let failed = SentCause::Numbered(ReroutingCause::NOT_RECOVERED);
+    match rows::class_of(cause) {
+        Class::CameNone => {
+            match crankback {
+                Crankback::NoCrankback => hard_again(cause, next, rerouting),
+                Crankback::AlternateFound => hard_alternate(cause, next, rerouting),
+                Crankback::NoAlternate => hard_ended(failed),
+            }
+        }
+        Class::CameOutside => hard_ended(cause.as_received()),
+        Class::CameComplete => hard_ended(failed),
+        Class::CameOther => hard_ended(failed),
+    }
+}
+
+// D17
+fn soft_lost(
+    hard: bool,
+    cause: ReceivedCause,
+    incumbent: u16,
+    rerouting: u16,
+    next: Fresh,
+) -> Effect
+    ensures { λ r. ⌜ r ≡ atSource (SoftProceeding incumbent rerouting) next cause (softLost hard (classOf cause)) ⌝ }
+{
+    if hard {
+        match rows::class_of(cause) {
+            Class::CameNone => {
+                Effect::done(
+                    State::HardUnderway(rerouting),
+                    Signal::TIMER_START,
+                    Signal::NONE,
+                    Signal::NONE,
+                )
+            }
+            Class::CameOutside => told_both(
+                rerouting,
+                SentCause::Numbered(ReroutingCause::OUTSIDE),
+            ),
+            Class::CameComplete => told_both(
+                rerouting,
+                SentCause::Numbered(ReroutingCause::NOT_RECOVERED),
+            ),
+            Class::CameOther => told_both(
+                rerouting,
+                SentCause::Numbered(ReroutingCause::NOT_RECOVERED),
+            ),
+        }
+    } else {
+        told_both(rerouting, SentCause::Absent)
+    }
+}
+
+fn back_to_idle(incumbent: u16) -> Effect
+    ensures { λ r. ⌜ r ≡ doneIn (Idle incumbent) none none none ⌝ }
+{
+    Effect::done(
+        State::Idle(incumbent),
+        Signal::NONE,
+        Signal::NONE,
+        Signal::NONE,
+    )
 }
 
 // 6.2.4.6 cases 5 and 6
-fn soft_crankback(incumbent: u16, crankback: Crankback, next: Fresh) -> Row
-    ensures { λ r. ⌜ r ≡ softCrankback incumbent crankback next ⌝ }
+fn soft_crankback(
+    cause: ReceivedCause,
+    crankback: Crankback,
+    next: Fresh,
+    incumbent: u16,
+    rerouting: u16,
+) -> Effect
+    ensures { λ r. ⌜ r ≡ atSource (SoftProceeding incumbent rerouting) next cause (softCrankback crankback (isNext next)) ⌝ }
 {
     match crankback {
         Crankback::NoCrankback => back_to_idle(incumbent),
-        Crankback::AlternateFound => soft_alternate(incumbent, next),
+        Crankback::AlternateFound => {
+            match next {
+                Fresh::Next(number) => {
+                    let setup = Signal::naming(Kind::SetupRequest, number);
+                    Effect::given(
+                        State::SoftProceeding(incumbent, number),
+                        false,
+                        setup,
+                        Signal::NONE,
+                        Signal::NONE,
+                    )
+                }
+                Fresh::Spent => back_to_idle(incumbent),
+            }
+        }
         Crankback::NoAlternate => back_to_idle(incumbent),
     }
 }
 
 // D18
-fn soft_initiated_lost(hard: bool, cause: ReceivedCause, rerouting: u16) -> Row
-    ensures { λ r. ⌜ r ≡ softInitiatedLost hard cause rerouting ⌝ }
+fn initiated_lost(
+    hard: bool,
+    cause: ReceivedCause,
+    incumbent: u16,
+    rerouting: u16,
+    next: Fresh,
+) -> Effect
+    ensures { λ r. ⌜ r ≡ atSource (SoftInitiated incumbent rerouting) next cause (initiatedLost hard (classOf cause)) ⌝ }
 {
     if hard {
-        match cause {
-            ReceivedCause::NoCause => {
-                let change = Change::Moves(State::HardTriggered);
-                let turned_away = Signal::release(
+        match rows::class_of(cause) {
+            Class::CameNone => {
+                let away = Signal::release(
                     Kind::ReroutingRelease,
                     rerouting,
                     SentCause::Absent,
                     CauseCode::CallRejected,
                 );
-                Row::decided(change, Signal::TIMER_START, turned_away)
+                Effect::done(State::HardWaiting, Signal::TIMER_START, away, Signal::NONE)
             }
-            ReceivedCause::WithCause(_) => both_released(rerouting, cause.restated()),
+            Class::CameOutside => told_both(
+                rerouting,
+                SentCause::Numbered(ReroutingCause::OUTSIDE),
+            ),
+            Class::CameComplete => told_both(
+                rerouting,
+                SentCause::Numbered(ReroutingCause::NOT_RECOVERED),
+            ),
+            Class::CameOther => told_both(
+                rerouting,
+                SentCause::Numbered(ReroutingCause::NOT_RECOVERED),
+            ),
         }
     } else {
-        both_released(rerouting, SentCause::Absent)
+        told_both(rerouting, SentCause::Absent)
     }
 }
 
 // D19, the incumbent
-fn awaiting_incumbent_lost(cause: ReceivedCause, rerouting: u16) -> Row
-    ensures { λ r. ⌜ r ≡ awaitingIncumbentLost cause rerouting ⌝ }
+fn awaiting_lost(cause: ReceivedCause, incumbent: u16, rerouting: u16, next: Fresh) -> Effect
+    ensures { λ r. ⌜ r ≡ atSource (Awaiting incumbent rerouting) next cause (awaitingLost (classOf cause)) ⌝ }
 {
     let switch = Signal::naming(Kind::Switch, rerouting);
-    match cause {
-        ReceivedCause::NoCause => {
-            Row::decided(Change::Moves(State::Idle(rerouting)), switch, Signal::NONE)
-        }
-        ReceivedCause::WithCause(received) => {
-            if received.number == 4 {
-                let change = Change::Moves(State::Idle(rerouting));
-                return Row::decided(change, switch, Signal::NONE);
-            }
-            both_released(rerouting, cause.restated())
-        }
+    match rows::class_of(cause) {
+        Class::CameNone => Effect::done(State::Idle(rerouting), switch, Signal::NONE, Signal::NONE),
+        Class::CameOutside => told_both(rerouting, SentCause::Numbered(ReroutingCause::OUTSIDE)),
+        Class::CameComplete => Effect::done(
+            State::Idle(rerouting),
+            switch,
+            Signal::NONE,
+            Signal::NONE,
+        ),
+        Class::CameOther => told_both(
+            rerouting,
+            SentCause::Numbered(ReroutingCause::NOT_RECOVERED),
+        ),
     }
+}
+
+fn told_and_released(incumbent: u16, cause: SentCause) -> Effect
+    ensures { λ r. ⌜ r ≡ toldAndReleased incumbent cause ⌝ }
+{
+    let calling = Signal::release(Kind::CallingRelease, 0, cause, CauseCode::Section66);
+    let other = Signal::release(
+        Kind::IncumbentRelease,
+        incumbent,
+        SentCause::Absent,
+        CauseCode::Section66,
+    );
+    Effect::done(State::Null, calling, other, Signal::NONE)
 }
 
 // D19, the rerouting connection
-fn awaiting_rerouting_lost(cause: ReceivedCause, incumbent: u16) -> Row
-    ensures { λ r. ⌜ r ≡ awaitingReroutingLost cause incumbent ⌝ }
+fn awaiting_dropped(cause: ReceivedCause, incumbent: u16, rerouting: u16, next: Fresh) -> Effect
+    ensures { λ r. ⌜ r ≡ atSource (Awaiting incumbent rerouting) next cause (awaitingDropped (classOf cause)) ⌝ }
 {
-    match cause {
-        ReceivedCause::NoCause => back_to_idle(incumbent),
-        ReceivedCause::WithCause(_) => {
-            let calling = Signal::release(
-                Kind::CallingRelease,
-                0,
-                cause.restated(),
-                CauseCode::Section66,
-            );
-            let other = Signal::release(
-                Kind::IncumbentRelease,
-                incumbent,
-                SentCause::Absent,
-                CauseCode::Section66,
-            );
-            Row::decided(Change::Ends, calling, other)
-        }
+    match rows::class_of(cause) {
+        Class::CameNone => back_to_idle(incumbent),
+        Class::CameOutside => told_and_released(
+            incumbent,
+            SentCause::Numbered(ReroutingCause::OUTSIDE),
+        ),
+        Class::CameComplete => told_and_released(
+            incumbent,
+            SentCause::Numbered(ReroutingCause::NOT_RECOVERED),
+        ),
+        Class::CameOther => told_and_released(
+            incumbent,
+            SentCause::Numbered(ReroutingCause::NOT_RECOVERED),
+        ),
     }
 }
 
-fn if_held(connection: u16, held: u16, row: Row) -> Row
-    ensures { λ r. ⌜ r ≡ ifHeld connection held row ⌝ }
+// The rows by state: the connection that is named is one that the state holds, or the release is refused (107).
+fn idle_called(hard: bool, connection: u16, cause: ReceivedCause, next: Fresh, i: u16) -> Effect
+    ensures { λ r. ⌜ r ≡ idleCalled hard connection cause next i ⌝ }
 {
-    if connection == held {
-        return row;
+    if connection == i {
+        return idle_lost(hard, cause, i, next);
     }
-    Row::refused(Answer::NotHeld)
+    Effect::refused(Answer::NotHeld, State::Idle(i))
 }
 
-fn by_connection(connection: u16, incumbent: u16, rerouting: u16, first: Row, second: Row) -> Row
-    ensures { λ r. ⌜ r ≡ byConnection connection incumbent rerouting first second ⌝ }
+fn proceeding_called(
+    hard: bool,
+    connection: u16,
+    cause: ReceivedCause,
+    crankback: Crankback,
+    next: Fresh,
+    i: u16,
+    r: u16,
+) -> Effect
+    ensures { λ e. ⌜ e ≡ calledEffect hard connection cause crankback next (SoftProceeding i r) ⌝ }
 {
-    if connection == incumbent {
-        return first;
+    if connection == i {
+        return soft_lost(hard, cause, i, r, next);
     }
-    if_held(connection, rerouting, second)
+    if connection == r {
+        return soft_crankback(cause, crankback, next, i, r);
+    }
+    Effect::refused(Answer::NotHeld, State::SoftProceeding(i, r))
+}
+
+fn initiated_called(
+    hard: bool,
+    connection: u16,
+    cause: ReceivedCause,
+    next: Fresh,
+    i: u16,
+    r: u16,
+) -> Effect
+    ensures { λ e. ⌜ e ≡ initiatedCalled hard connection cause next i r ⌝ }
+{
+    if connection == i {
+        return initiated_lost(hard, cause, i, r, next);
+    }
+    if connection == r {
+        return back_to_idle(i);
+    }
+    Effect::refused(Answer::NotHeld, State::SoftInitiated(i, r))
+}
+
+fn awaiting_called(connection: u16, cause: ReceivedCause, next: Fresh, i: u16, r: u16) -> Effect
+    ensures { λ e. ⌜ e ≡ awaitingCalled connection cause next i r ⌝ }
+{
+    if connection == i {
+        return awaiting_lost(cause, i, r, next);
+    }
+    if connection == r {
+        return awaiting_dropped(cause, i, r, next);
+    }
+    Effect::refused(Answer::NotHeld, State::Awaiting(i, r))
 }
 
 pub fn called_row(
@@ -264,29 +360,29 @@ pub fn called_row(
     crankback: Crankback,
     next: Fresh,
     state: State,
-) -> Row
-    ensures { λ r. ⌜ r ≡ calledRow hard connection cause crankback next state ⌝ }
+) -> Effect
+    ensures { λ r. ⌜ r ≡ calledEffect hard connection cause crankback next state ⌝ }
 {
     match state {
-        State::Null => Row::refused(Answer::NoMeaning),
-        State::Idle(i) => if_held(connection, i, idle_lost(hard, cause)),
-        State::HardTriggered => Row::refused(Answer::NotHeld),
-        State::HardProceeding(r) => {
-            let row = hard_proceeding_lost(cause, crankback, next);
-            if_held(connection, r, row)
+        State::Null => Effect::refused(Answer::NoMeaning, state),
+        State::Idle(i) => idle_called(hard, connection, cause, next, i),
+        State::HardWaiting => Effect::refused(Answer::NotHeld, state),
+        State::HardUnderway(r) => {
+            if connection == r {
+                return hard_lost(cause, crankback, next, r);
+            }
+            Effect::refused(Answer::NotHeld, state)
         }
-        State::SoftTriggered(i) => if_held(connection, i, soft_triggered_lost(hard, cause)),
+        State::SoftTriggered(i) => {
+            if connection == i {
+                return told_only(SentCause::Absent);
+            }
+            Effect::refused(Answer::NotHeld, state)
+        }
         State::SoftProceeding(i, r) => {
-            let first = soft_proceeding_lost(hard, cause, r);
-            by_connection(connection, i, r, first, soft_crankback(i, crankback, next))
+            proceeding_called(hard, connection, cause, crankback, next, i, r)
         }
-        State::SoftInitiated(i, r) => {
-            let first = soft_initiated_lost(hard, cause, r);
-            by_connection(connection, i, r, first, back_to_idle(i))
-        }
-        State::Awaiting(i, r) => {
-            let first = awaiting_incumbent_lost(cause, r);
-            by_connection(connection, i, r, first, awaiting_rerouting_lost(cause, i))
-        }
+        State::SoftInitiated(i, r) => initiated_called(hard, connection, cause, next, i, r),
+        State::Awaiting(i, r) => awaiting_called(connection, cause, next, i, r),
     }
 }

@@ -1,71 +1,85 @@
-// The answers of path choice.
+// The answers of path choice, 6.2.5.1 and 6.2.5.3.
 ghost use mathlib.Core.Path.{_≡_};
-ghost use Rattle.source_requests.specs.Path.{pathRow, noPathRow, hardPath, softPath};
+ghost use Rattle.rows.specs.declared.State.the-variants.{HardWaiting, SoftTriggered};
+ghost use Rattle.source_requests.specs.Effects.{pathEffect, noPathEffect};
+use rows::Effect;
+use rows::State;
 use signal::Answer;
 use signal::Fresh;
 use signal::Kind;
 use signal::Signal;
-use source_states::Change;
-use source_states::Row;
-use source_states::State;
 
 // 6.2.5.1
-fn hard_path(next: Fresh) -> Row
-    ensures { λ r. ⌜ r ≡ hardPath next ⌝ }
+fn hard_path(next: Fresh) -> Effect
+    ensures { λ r. ⌜ r ≡ pathEffect next HardWaiting ⌝ }
 {
     match next {
         Fresh::Next(number) => {
             let setup = Signal::naming(Kind::SetupRequest, number);
-            let change = Change::Gives(State::HardProceeding(number), number);
-            Row::decided(change, setup, Signal::NONE)
+            Effect::given(
+                State::HardUnderway(number),
+                false,
+                setup,
+                Signal::NONE,
+                Signal::NONE,
+            )
         }
-        Fresh::Spent => Row::refused(Answer::NumbersSpent),
+        Fresh::Spent => Effect::refused(Answer::NumbersSpent, State::HardWaiting),
     }
 }
 
 // 6.2.5.3 case 1
-fn soft_path(incumbent: u16, next: Fresh) -> Row
-    ensures { λ r. ⌜ r ≡ softPath incumbent next ⌝ }
+fn soft_path(next: Fresh, incumbent: u16) -> Effect
+    ensures { λ r. ⌜ r ≡ pathEffect next (SoftTriggered incumbent) ⌝ }
 {
     match next {
         Fresh::Next(number) => {
             let setup = Signal::naming(Kind::SetupRequest, number);
-            let change = Change::Gives(State::SoftProceeding(incumbent, number), number);
-            Row::decided(change, setup, Signal::NONE)
+            Effect::given(
+                State::SoftProceeding(incumbent, number),
+                false,
+                setup,
+                Signal::NONE,
+                Signal::NONE,
+            )
         }
-        Fresh::Spent => Row::refused(Answer::NumbersSpent),
+        Fresh::Spent => Effect::refused(Answer::NumbersSpent, State::SoftTriggered(incumbent)),
     }
 }
 
-pub fn path_row(next: Fresh, state: State) -> Row
-    ensures { λ r. ⌜ r ≡ pathRow next state ⌝ }
+pub fn path_row(next: Fresh, state: State) -> Effect
+    ensures { λ r. ⌜ r ≡ pathEffect next state ⌝ }
 {
     match state {
-        State::Null => Row::refused(Answer::NoMeaning),
-        State::Idle(_) => Row::refused(Answer::NoMeaning),
-        State::HardTriggered => hard_path(next),
-        State::HardProceeding(_) => Row::refused(Answer::NoMeaning),
-        State::SoftTriggered(incumbent) => soft_path(incumbent, next),
-        State::SoftProceeding(_, _) => Row::refused(Answer::NoMeaning),
-        State::SoftInitiated(_, _) => Row::refused(Answer::NoMeaning),
-        State::Awaiting(_, _) => Row::refused(Answer::NoMeaning),
+        State::Null => Effect::refused(Answer::NoMeaning, state),
+        State::Idle(_) => Effect::refused(Answer::NoMeaning, state),
+        State::HardWaiting => hard_path(next),
+        State::HardUnderway(_) => Effect::refused(Answer::NoMeaning, state),
+        State::SoftTriggered(incumbent) => soft_path(next, incumbent),
+        State::SoftProceeding(_, _) => Effect::refused(Answer::NoMeaning, state),
+        State::SoftInitiated(_, _) => Effect::refused(Answer::NoMeaning, state),
+        State::Awaiting(_, _) => Effect::refused(Answer::NoMeaning, state),
     }
 }
 
-pub fn no_path_row(state: State) -> Row
-    ensures { λ r. ⌜ r ≡ noPathRow state ⌝ }
+pub fn no_path_row(state: State) -> Effect
+    ensures { λ r. ⌜ r ≡ noPathEffect state ⌝ }
 {
     match state {
-        State::Null => Row::refused(Answer::NoMeaning),
-        State::Idle(_) => Row::refused(Answer::NoMeaning),
-        State::HardTriggered => Row::decided(Change::Stays, Signal::NONE, Signal::NONE),
-        State::HardProceeding(_) => Row::refused(Answer::NoMeaning),
+        State::Null => Effect::refused(Answer::NoMeaning, state),
+        State::Idle(_) => Effect::refused(Answer::NoMeaning, state),
+        State::HardWaiting => Effect::done(state, Signal::NONE, Signal::NONE, Signal::NONE),
+        State::HardUnderway(_) => Effect::refused(Answer::NoMeaning, state),
         State::SoftTriggered(incumbent) => {
-            let change = Change::Moves(State::Idle(incumbent));
-            Row::decided(change, Signal::NONE, Signal::NONE)
+            Effect::done(
+                State::Idle(incumbent),
+                Signal::NONE,
+                Signal::NONE,
+                Signal::NONE,
+            )
         }
-        State::SoftProceeding(_, _) => Row::refused(Answer::NoMeaning),
-        State::SoftInitiated(_, _) => Row::refused(Answer::NoMeaning),
-        State::Awaiting(_, _) => Row::refused(Answer::NoMeaning),
+        State::SoftProceeding(_, _) => Effect::refused(Answer::NoMeaning, state),
+        State::SoftInitiated(_, _) => Effect::refused(Answer::NoMeaning, state),
+        State::Awaiting(_, _) => Effect::refused(Answer::NoMeaning, state),
     }
 }

@@ -1,44 +1,51 @@
 // A soft reroute is triggered, 6.2.5.3.
 ghost use mathlib.Core.Path.{_≡_};
-ghost use mathlib.Core.List.{[]};
-ghost use Rattle.source_states.specs.Rows.{stays};
-ghost use Rattle.source_requests.specs.Trigger.{triggerRow, triggerIn};
+ghost use Rattle.signal.specs.declared.Fresh.the-variants.{Spent};
+ghost use Rattle.signal.specs.declared.ReceivedCause.the-variants.{NoCause};
+ghost use Rattle.signal.specs.Signals.{none};
+ghost use Rattle.rows.specs.Effects.{doneIn};
+ghost use Rattle.rows.specs.States.{phaseOf};
+ghost use Rattle.source_rows.specs.Rows.{atSource, triggerIn};
+ghost use Rattle.source_requests.specs.Effects.{triggerEffect};
+use rows::Effect;
+use rows::State;
 use signal::Answer;
 use signal::Signal;
 use signal::Soft;
-use source_states::Change;
-use source_states::Row;
-use source_states::State;
 
-fn disregarded() -> Row
-    ensures { λ r. ⌜ r ≡ stays [] ⌝ }
+fn disregarded(state: State) -> Effect
+    ensures { λ r. ⌜ r ≡ doneIn state none none none ⌝ }
 {
-    Row::decided(Change::Stays, Signal::NONE, Signal::NONE)
+    Effect::done(state, Signal::NONE, Signal::NONE, Signal::NONE)
 }
 
-fn trigger_in(state: State) -> Row
-    ensures { λ r. ⌜ r ≡ triggerIn state ⌝ }
+fn trigger_in(state: State) -> Effect
+    ensures { λ r. ⌜ r ≡ atSource state Spent NoCause (triggerIn (phaseOf state)) ⌝ }
 {
     match state {
-        State::Null => Row::refused(Answer::NoMeaning),
+        State::Null => Effect::refused(Answer::NoMeaning, state),
         State::Idle(incumbent) => {
-            let change = Change::Moves(State::SoftTriggered(incumbent));
-            Row::decided(change, Signal::NONE, Signal::NONE)
+            Effect::done(
+                State::SoftTriggered(incumbent),
+                Signal::NONE,
+                Signal::NONE,
+                Signal::NONE,
+            )
         }
-        State::HardTriggered => disregarded(),
-        State::HardProceeding(_) => disregarded(),
-        State::SoftTriggered(_) => disregarded(),
-        State::SoftProceeding(_, _) => disregarded(),
-        State::SoftInitiated(_, _) => disregarded(),
-        State::Awaiting(_, _) => disregarded(),
+        State::HardWaiting => disregarded(state),
+        State::HardUnderway(_) => disregarded(state),
+        State::SoftTriggered(_) => disregarded(state),
+        State::SoftProceeding(_, _) => disregarded(state),
+        State::SoftInitiated(_, _) => disregarded(state),
+        State::Awaiting(_, _) => disregarded(state),
     }
 }
 
-pub fn trigger_row(soft: Soft, state: State) -> Row
-    ensures { λ r. ⌜ r ≡ triggerRow soft state ⌝ }
+pub fn trigger_row(soft: Soft, state: State) -> Effect
+    ensures { λ r. ⌜ r ≡ triggerEffect soft state ⌝ }
 {
     match soft {
-        Soft::NoSoft => Row::refused(Answer::NoMeaning),
+        Soft::NoSoft => Effect::refused(Answer::NoMeaning, state),
         Soft::Asymmetric => trigger_in(state),
         Soft::Symmetric => trigger_in(state),
     }

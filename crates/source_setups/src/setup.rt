@@ -1,9 +1,19 @@
 // A reroute setup from the neighbour, 6.2.7: the checks in their order, then the rows by state.
 ghost use mathlib.Core.Path.{_≡_};
+ghost use Rattle.signal.specs.declared.ReceivedCause.the-variants.{NoCause};
+ghost use Rattle.signal.specs.Numbers.{isLate};
+ghost use mathlib.Core.Bool.{true};
 ghost use Rattle.signal.specs.declared.Kind.the-variants.{ReroutingRelease};
 ghost use Rattle.signal.specs.declared.SentCause.the-variants.{Absent};
-ghost use Rattle.signal.specs.Signals.{releaseOf};
-ghost use Rattle.source_setups.specs.Setup.{setupRow, setupMet, setupChecked, setupIn, accepted, rejected as rejectedRow};
+ghost use Rattle.signal.specs.Signals.{none, rejection, releaseOf};
+ghost use Rattle.rows.specs.declared.State.the-variants.{SoftInitiated};
+ghost use Rattle.rows.specs.Cases.{askedOf};
+ghost use Rattle.rows.specs.Effects.{isNext, doneIn, givenIn};
+ghost use Rattle.rows.specs.States.{phaseOf};
+ghost use Rattle.source_rows.specs.Rows.{atSource, setupIn, setupAsked, inCall};
+ghost use Rattle.source_setups.specs.Effects.{setupEffect};
+use rows::Effect;
+use rows::State;
 use signal::Answer;
 use signal::CauseCode;
 use signal::Fresh;
@@ -13,83 +23,95 @@ use signal::SentCause;
 use signal::Signal;
 use signal::Soft;
 use signal::Switchover;
-use source_states::Change;
-use source_states::Row;
-use source_states::State;
 
-// Rows 1 to 3: a rejection to the neighbour, and what it leaves of the record.
-fn rejected(left: Change, cause: ReroutingCause) -> Row
-    ensures { λ r. ⌜ r ≡ rejectedRow left cause ⌝ }
+// Rows 1 to 3: a rejection to the neighbour, which leaves the call as it is.
+fn rejected(cause: ReroutingCause, state: State) -> Effect
+    ensures { λ r. ⌜ r ≡ doneIn state (rejection cause) none none ⌝ }
 {
-    Row::decided(left, Signal::rejection(cause), Signal::NONE)
+    Effect::done(state, Signal::rejection(cause), Signal::NONE, Signal::NONE)
 }
 
-// Row 4, and what row 5 does after its release.
-fn accepted_with(next: Fresh, number: u32, incumbent: u16, sent: Signal) -> Row
-    ensures { λ r. ⌜ r ≡ accepted next number incumbent sent ⌝ }
+// Row 4: a new rerouting connection; and row 5: the older one is released on its own number.
+fn accepted(incumbent: u16, rerouting: u16, sent: Signal) -> Effect
+    ensures { λ r. ⌜ r ≡ givenIn (SoftInitiated incumbent rerouting) true sent none none ⌝ }
 {
-    match next {
-        Fresh::Next(rerouting) => {
-            let state = State::SoftInitiated(incumbent, rerouting);
-            Row::decided(
-                Change::Accepts(state, rerouting, number),
-                sent,
-                Signal::NONE,
-            )
-        }
-        Fresh::Spent => Row::refused(Answer::NumbersSpent),
-    }
+    Effect::given(
+        State::SoftInitiated(incumbent, rerouting),
+        true,
+        sent,
+        Signal::NONE,
+        Signal::NONE,
+    )
 }
 
-// Row 5: the older rerouting connection is released on its own number.
-fn accepted_again(next: Fresh, number: u32, incumbent: u16, older: u16) -> Row
-    ensures { λ r. ⌜ r ≡ accepted next number incumbent (releaseOf ReroutingRelease older Absent) ⌝ }
+fn older_released(older: u16) -> Signal
+    ensures { λ r. ⌜ r ≡ releaseOf ReroutingRelease older Absent ⌝ }
 {
-    let sent = Signal::release(
+    Signal::release(
         Kind::ReroutingRelease,
         older,
         SentCause::Absent,
         CauseCode::Section66,
-    );
-    accepted_with(next, number, incumbent, sent)
+    )
 }
 
-fn setup_in(next: Fresh, number: u32, state: State) -> Row
-    ensures { λ r. ⌜ r ≡ setupIn next number state ⌝ }
+fn setup_in(next: Fresh, state: State) -> Effect
+    ensures { λ r. ⌜ r ≡ atSource state next NoCause (setupIn (phaseOf state) (isNext next)) ⌝ }
 {
     match state {
-        State::Null => Row::refused(Answer::NoMeaning),
-        State::Idle(i) => accepted_with(next, number, i, Signal::NONE),
-        State::HardTriggered => rejected(Change::Stays, ReroutingCause::IN_PROGRESS),
-        State::HardProceeding(_) => rejected(Change::Stays, ReroutingCause::IN_PROGRESS),
-        State::SoftTriggered(_) => rejected(Change::Stays, ReroutingCause::IN_PROGRESS),
-        State::SoftProceeding(_, _) => rejected(Change::Stays, ReroutingCause::IN_PROGRESS),
-        State::SoftInitiated(i, r) => accepted_again(next, number, i, r),
-        State::Awaiting(i, r) => accepted_again(next, number, i, r),
+        State::Null => Effect::refused(Answer::NoMeaning, state),
+        State::Idle(i) => {
+            match next {
+                Fresh::Next(n) => accepted(i, n, Signal::NONE),
+                Fresh::Spent => Effect::refused(Answer::NumbersSpent, state),
+            }
+        }
+        State::HardWaiting => rejected(ReroutingCause::IN_PROGRESS, state),
+        State::HardUnderway(_) => rejected(ReroutingCause::IN_PROGRESS, state),
+        State::SoftTriggered(_) => rejected(ReroutingCause::IN_PROGRESS, state),
+        State::SoftProceeding(_, _) => rejected(ReroutingCause::IN_PROGRESS, state),
+        State::SoftInitiated(i, r) => {
+            match next {
+                Fresh::Next(n) => accepted(i, n, older_released(r)),
+                Fresh::Spent => Effect::refused(Answer::NumbersSpent, state),
+            }
+        }
+        State::Awaiting(i, r) => {
+            match next {
+                Fresh::Next(n) => accepted(i, n, older_released(r)),
+                Fresh::Spent => Effect::refused(Answer::NumbersSpent, state),
+            }
+        }
     }
 }
 
 // Rows 1 and 2 come before the state is looked at.
-fn setup_checked(code: Switchover, number: u32, remote: u32, next: Fresh, state: State) -> Row
-    ensures { λ r. ⌜ r ≡ setupChecked code number remote next state ⌝ }
+fn setup_checked(code: Switchover, number: u32, remote: u32, next: Fresh, state: State) -> Effect
+    ensures { λ r. ⌜ r ≡ atSource state next NoCause (setupAsked (askedOf code) (isLate number remote) (phaseOf state) (isNext next)) ⌝ }
 {
     if code.clearing() {
         if signal::late(number, remote) {
-            return rejected(Change::Stays, ReroutingCause::OLD_NUMBER);
+            return rejected(ReroutingCause::OLD_NUMBER, state);
         }
-        return setup_in(next, number, state);
+        return setup_in(next, state);
     }
-    rejected(Change::Stays, ReroutingCause::UNSUPPORTED)
+    rejected(ReroutingCause::UNSUPPORTED, state)
 }
 
 // In Null no event has a meaning.
-fn setup_met(code: Switchover, number: u32, remote: u32, next: Fresh, state: State) -> Row
-    ensures { λ r. ⌜ r ≡ setupMet code number remote next state ⌝ }
+fn setup_met(code: Switchover, number: u32, remote: u32, next: Fresh, state: State) -> Effect
+    ensures { λ r. ⌜ r ≡ atSource state next NoCause (inCall (phaseOf state) (setupAsked (askedOf code) (isLate number remote) (phaseOf state) (isNext next))) ⌝ }
 {
-    if state.number() == 0 {
-        return Row::refused(Answer::NoMeaning);
+    match state {
+        State::Null => Effect::refused(Answer::NoMeaning, state),
+        State::Idle(_) => setup_checked(code, number, remote, next, state),
+        State::HardWaiting => setup_checked(code, number, remote, next, state),
+        State::HardUnderway(_) => setup_checked(code, number, remote, next, state),
+        State::SoftTriggered(_) => setup_checked(code, number, remote, next, state),
+        State::SoftProceeding(_, _) => setup_checked(code, number, remote, next, state),
+        State::SoftInitiated(_, _) => setup_checked(code, number, remote, next, state),
+        State::Awaiting(_, _) => setup_checked(code, number, remote, next, state),
     }
-    setup_checked(code, number, remote, next, state)
 }
 
 pub fn setup_row(
@@ -99,12 +121,12 @@ pub fn setup_row(
     remote: u32,
     next: Fresh,
     state: State,
-) -> Row
-    ensures { λ r. ⌜ r ≡ setupRow soft code number remote next state ⌝ }
+) -> Effect
+    ensures { λ r. ⌜ r ≡ setupEffect soft code number remote next state ⌝ }
 {
     match soft {
-        Soft::NoSoft => Row::refused(Answer::NoMeaning),
-        Soft::Asymmetric => Row::refused(Answer::NoMeaning),
+        Soft::NoSoft => Effect::refused(Answer::NoMeaning, state),
+        Soft::Asymmetric => Effect::refused(Answer::NoMeaning, state),
         Soft::Symmetric => setup_met(code, number, remote, next, state),
     }
 }

@@ -1,30 +1,30 @@
 -- What the code's test of a table says, in natural terms and both ways. Assumes nothing.
-use Prim.Native.Nat.{ℕ, zero, suc, _+_, _≤_, _<_, zero-le, suc-le-suc}
-use native.Mathlib.Nat.{not-suc-le-zero, le-of-suc-le-suc}
+use Prim.Native.Nat.{_<_, _≤_, suc, suc-le-suc, zero, zero-le, ℕ}
+use native.Mathlib.Nat.{le-of-suc-le-suc, not-suc-le-zero}
 use native.Mathlib.Omega.{arith}
-use mathlib.Core.Path.{_≡_, refl, sym, ap, _∙_}
-use mathlib.Core.Bool.{Bool, true, false, not, _&&_, cond, false≢true, true≢false}
-use mathlib.Core.Logic.{_↔_}
+use mathlib.Core.Bool.{Bool, _&&_, cond, false, false≢true, not, true, true≢false}
 use mathlib.Core.List.{List, [], _∷_, map}
-use lib.Dec.{eqb, ltb, leb}
-use lib.ListN.{length, getD, length-map, List·getD-map}
-use borrow.Author.Tests.{eqb-true, eqb-false, eq-eqb, ne-eqb, leb-true, le-leb, ltb-false, le-ltb, not-true}
-use Rattle.signal.specs.declared.Soft.{Soft}
-use Rattle.signal.specs.declared.Soft.the-variants.{NoSoft, Asymmetric, Symmetric}
-use Rattle.signal.specs.Numbers.{softNumber}
-use Rattle.signal.specs.Counting.{one, count}
-use Rattle.signal.proofs.Counting.{one-most, one-same, one-self, one-other}
-use Rattle.source_states.specs.declared.State.{State}
-use Rattle.source_states.specs.declared.State.the-variants.{Null, Idle, HardTriggered, HardProceeding, SoftTriggered, SoftProceeding, SoftInitiated, Awaiting}
-use Rattle.source_states.specs.States.{isNull, heldIn}
-use Rattle.distinct.specs.Distinct.{distinctOf}
+use mathlib.Core.Logic.{_↔_}
+use mathlib.Core.Path.{_∙_, _≡_, refl, sym}
+use lib.Dec.{eqb, leb, ltb}
+use lib.ListN.{List·getD-map, getD, length, length-map}
+use borrow.Author.Tests.{eqb-false, eqb-true, le-leb, le-ltb, leb-true, ltb-false, ne-eqb, not-true}
 use Rattle.distinct.proofs.Laws.{distinct-exactly}
-use Rattle.source.specs.declared.Call.{Call}
-use Rattle.source.specs.Record.{emptied}
-use Rattle.source.specs.Claims.{Sound}
-use Rattle.source_table.specs.Fit.{isEmptied, isWithin, areWithin, fitHeld, fitRecord, everyFit, fitKeys, fitTable}
+use Rattle.distinct.specs.Distinct.{distinctOf}
+use Rattle.signal.proofs.Counting.{one-most, one-other, one-same, one-self}
+use Rattle.signal.specs.Counting.{count, one}
+use Rattle.signal.specs.Numbers.{softNumber}
+use Rattle.signal.specs.declared.Soft.{Soft}
+use Rattle.signal.specs.declared.Soft.the-variants.{Asymmetric, NoSoft, Symmetric}
+use Rattle.rows.specs.States.{heldIn, isNull}
+use Rattle.rows.specs.declared.State.{State}
+use Rattle.rows.specs.declared.State.the-variants.{Awaiting, HardUnderway, HardWaiting, Idle, Null, SoftInitiated, SoftProceeding}
+use Rattle.rows.specs.declared.State.the-variants.{SoftTriggered}
+use Rattle.call.specs.Record.{emptied}
+use Rattle.call.specs.declared.Call.{Call}
+use Rattle.source_table.specs.Claims.{FitRecord, InUse}
+use Rattle.source_table.specs.Fit.{areWithin, everyFit, fitHeld, fitKeys, fitRecord, isEmptied, isWithin}
 use Rattle.source_table.specs.Claims as claim
-use Rattle.source_table.specs.Claims.{InUse, FitRecord, FitTable}
 
 -- both of two tests
 and-both : (a b : Bool) → (a && b) ≡ true → (a ≡ true) × (b ≡ true)
@@ -115,8 +115,8 @@ two-well last i r = (
 held-is : (last : ℕ) (s : State) → (fitHeld last s ≡ true) ↔ ((isNull s ≡ false) × Well last (heldIn s))
 held-is last Null = (λ p. absurd (false≢true p), λ q. absurd (true≢false (q .0)))
 held-is last (Idle i) = (λ p. (refl, one-well last i .0 (within-is last i .0 p)), λ q. within-is last i .1 (one-well last i .1 (q .1)))
-held-is last HardTriggered = (λ p. (refl, none-well last), λ q. refl)
-held-is last (HardProceeding r) = (λ p. (refl, one-well last r .0 (within-is last r .0 p)), λ q. within-is last r .1 (one-well last r .1 (q .1)))
+held-is last HardWaiting = (λ p. (refl, none-well last), λ q. refl)
+held-is last (HardUnderway r) = (λ p. (refl, one-well last r .0 (within-is last r .0 p)), λ q. within-is last r .1 (one-well last r .1 (q .1)))
 held-is last (SoftTriggered i) = (λ p. (refl, one-well last i .0 (within-is last i .0 p)), λ q. within-is last i .1 (one-well last i .1 (q .1)))
 held-is last (SoftProceeding i r) = (λ p. (refl, two-well last i r .0 (two-is last i r .0 p)), λ q. two-is last i r .1 (two-well last i r .1 (q .1)))
 held-is last (SoftInitiated i r) = (λ p. (refl, two-well last i r .0 (two-is last i r .0 p)), λ q. two-is last i r .1 (two-well last i r .1 (q .1)))
@@ -131,8 +131,8 @@ soft-none Symmetric p = absurd (false≢true p)
 state-null : (s : State) → isNull s ≡ true → s ≡ Null
 state-null Null p = refl
 state-null (Idle i) p = absurd (false≢true p)
-state-null HardTriggered p = absurd (false≢true p)
-state-null (HardProceeding r) p = absurd (false≢true p)
+state-null HardWaiting p = absurd (false≢true p)
+state-null (HardUnderway r) p = absurd (false≢true p)
 state-null (SoftTriggered i) p = absurd (false≢true p)
 state-null (SoftProceeding i r) p = absurd (false≢true p)
 state-null (SoftInitiated i r) p = absurd (false≢true p)

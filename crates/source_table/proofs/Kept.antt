@@ -1,36 +1,37 @@
 -- A fit table stays fit (specs/Claims). Assumes nothing.
-use Prim.Native.Nat.{ℕ, _<_}
+use Prim.Native.Nat.{_<_, ℕ}
 use native.Mathlib.Omega.{arith}
-use mathlib.Core.Path.{_≡_, refl, sym, ap, _∙_}
-use mathlib.Core.Bool.{Bool, true, false, cond, true≢false}
-use mathlib.Core.Logic.{_⊎_, inl, inr, ⊎-elim}
+use mathlib.Core.Bool.{Bool, cond, false, true, true≢false}
 use mathlib.Core.List.{List}
+use mathlib.Core.Logic.{_⊎_, inl, inr, ⊎-elim}
+use mathlib.Core.Path.{_∙_, _≡_, ap, refl, sym}
 use lib.Dec.{eqb, ltb}
-use lib.ListN.{length, getD, set, length-set}
-use lib.Seq.{getD-set-same, getD-set-other}
-use borrow.Author.Tests.{eqb-false, ltb-true, ltb-false}
+use lib.ListN.{getD, length, length-set, set}
+use lib.Seq.{getD-set-other, getD-set-same}
+use borrow.Author.Tests.{eqb-false, ltb-false, ltb-true}
 use Rattle.signal.specs.declared.Answer.{Answer}
-use Rattle.signal.specs.declared.Answer.the-variants.{TableUnfit, KeyZero, KeyOnRecord, NoEmptyRecord, KeyNotOnRecord}
+use Rattle.signal.specs.declared.Answer.the-variants.{KeyNotOnRecord, KeyOnRecord, KeyZero, NoEmptyRecord, TableUnfit}
 use Rattle.signal.specs.declared.Wanted.{Wanted}
-use Rattle.source_states.specs.declared.Event.{Event}
-use Rattle.source_states.specs.States.{isNull}
-use Rattle.source.specs.declared.Call.{Call}
-use Rattle.source.specs.Record.{emptied, openedFor}
-use Rattle.source.specs.Events.{eventOf}
-use Rattle.source.proofs.Claims.{ended-is-emptied, key-and-services-stay, last-by-one, stays-sound}
-use Rattle.source_table.specs.declared.Act.{Act}
-use Rattle.source_table.specs.declared.Act.the-variants.{Opens, Meets}
+use Rattle.events.specs.declared.Act.{Act}
+use Rattle.events.specs.declared.Act.the-variants.{Meets, Opens}
+use Rattle.events.specs.declared.Event.{Event}
+use Rattle.rows.specs.States.{isNull}
+use Rattle.call.specs.Claims.{Lawful}
+use Rattle.call.specs.Events.{Half, handledAt}
+use Rattle.call.specs.Record.{emptied, openedFor}
+use Rattle.call.specs.declared.Call.{Call}
+use Rattle.source_table.proofs.Claims.{past-the-end}
+use Rattle.source_table.proofs.Fit.{Well, by-equal, one-well}
+use Rattle.source_table.proofs.Search.{FoundAt, first, found-at, isAt, on-record, sought-is, stands-on-record}
+use Rattle.source_table.proofs.Stored.{either, ran-is}
+use Rattle.source_table.specs.Claims.{FitRecord, FitTable, InUse}
+use Rattle.source_table.specs.Fit.{fitTable}
+use Rattle.source_table.specs.Table.{actOf, meetingAt, openingAt, openingBy, refusedAt}
 use Rattle.source_table.specs.declared.Found.{Found}
 use Rattle.source_table.specs.declared.Found.the-variants.{At, Nothing}
 use Rattle.source_table.specs.declared.Ran.{Ran}
-use Rattle.source_table.specs.Fit.{fitTable}
-use Rattle.source_table.specs.Table.{openingAt, openingBy, meetingAt, actOf, refusedAt}
 use Rattle.source_table.specs.Claims as claim
-use Rattle.source_table.specs.Claims.{InUse, FitRecord, FitTable}
-use Rattle.source_table.proofs.Search.{first, sought-is, FoundAt, found-at, isAt, on-record, stands-on-record}
-use Rattle.source_table.proofs.Fit.{Well, one-well, by-equal}
-use Rattle.source_table.proofs.Stored.{ran-is, either}
-use Rattle.source_table.proofs.Claims.{past-the-end}
+use Rattle.call.proofs.Claims as any
 
 -- a record put into a fit table, with a key that no other place has but 0
 put-fit : (ys : List Call) → FitTable ys → (i : ℕ) (c : Call) → i < length ys → FitRecord c → ((j : ℕ) → (j ≡ i → ⊥) → j < length ys → getD ys j emptied .key ≡ c .key → c .key ≡ 0) → FitTable (set ys i c)
@@ -78,85 +79,86 @@ opened-fit key wanted n =
       used = λ k. record { live = refl; given = omega arith; held = record { within = w .within; differ = w .differ } };
     }
 
--- a call after an event: emptied, or the same call still in use
-pub after-event : (c : Call) (e : Event) → (c .key ≡ 0 → ⊥) → InUse c → FitRecord (eventOf c e .call) × ((eventOf c e .call .key ≡ 0) ⊎ (eventOf c e .call .key ≡ c .key))
-after-event c e n u = by-test (isNull (eventOf c e .call .state)) refl
-  where
-    by-test : (b : Bool) → isNull (eventOf c e .call .state) ≡ b → FitRecord (eventOf c e .call) × ((eventOf c e .call .key ≡ 0) ⊎ (eventOf c e .call .key ≡ c .key))
-    by-test true t =
-        let z : eventOf c e .call ≡ emptied = ended-is-emptied c e (eventOf c e) refl (u .live) t in
-        (rw z emptied-fit, inl (ap (λ (x : Call). x .key) z))
-    by-test false t =
-        let k : eventOf c e .call .key ≡ c .key = key-and-services-stay c e (eventOf c e) refl t .0 in
-        let l = last-by-one c e (eventOf c e) refl t in (
-          record {
-            empty = λ q. absurd (n (sym k ∙ q));
-            used = λ q.
-                record {
-                  live = t;
-                  given = omega (arith, l .0, u .given);
-                  held = stays-sound c e (eventOf c e) refl (u .held);
-                };
-          },
-          inr k,
-        )
+module _ (half : Half) (L : Lawful half) where
+  -- a call after an event: emptied, or the same call still in use
+  pub after-event : (c : Call) (e : Event) → (c .key ≡ 0 → ⊥) → InUse c → FitRecord (handledAt half c e .call) × ((handledAt half c e .call .key ≡ 0) ⊎ (handledAt half c e .call .key ≡ c .key))
+  after-event c e n u = by-test (isNull (handledAt half c e .call .state)) refl
+    where
+      by-test : (b : Bool) → isNull (handledAt half c e .call .state) ≡ b → FitRecord (handledAt half c e .call) × ((handledAt half c e .call .key ≡ 0) ⊎ (handledAt half c e .call .key ≡ c .key))
+      by-test true t =
+          let z : handledAt half c e .call ≡ emptied = any.ended-is-emptied half L c e (handledAt half c e) refl (u .live) t in
+          (rw z emptied-fit, inl (ap (λ (x : Call). x .key) z))
+      by-test false t =
+          let k : handledAt half c e .call .key ≡ c .key = any.key-and-services-stay half L c e (handledAt half c e) refl t .0 in
+          let l = any.last-by-one half L c e (handledAt half c e) refl t in (
+            record {
+              empty = λ q. absurd (n (sym k ∙ q));
+              used = λ q.
+                  record {
+                    live = t;
+                    given = omega (arith, l .0, u .given);
+                    held = any.stays-sound half L c e (handledAt half c e) refl (u .held);
+                  };
+            },
+            inr k,
+          )
 
--- two places of a fit table with one key hold 0
-apart : (ys : List Call) → FitTable ys → (i j : ℕ) → i < length ys → j < length ys → (j ≡ i → ⊥) → getD ys j emptied .key ≡ getD ys i emptied .key → getD ys i emptied .key ≡ 0
-apart ys f i j li lj o k = by-order (ltb j i) refl
-  where
-    by-order : (b : Bool) → ltb j i ≡ b → getD ys i emptied .key ≡ 0
-    by-order true t = sym k ∙ f .keys j i (ltb-true j i t) li k
-    by-order false t =
-        let g : i < j = omega (arith, ltb-false j i t, o) in
-        f .keys i j g lj (sym k)
+  -- two places of a fit table with one key hold 0
+  apart : (ys : List Call) → FitTable ys → (i j : ℕ) → i < length ys → j < length ys → (j ≡ i → ⊥) → getD ys j emptied .key ≡ getD ys i emptied .key → getD ys i emptied .key ≡ 0
+  apart ys f i j li lj o k = by-order (ltb j i) refl
+    where
+      by-order : (b : Bool) → ltb j i ≡ b → getD ys i emptied .key ≡ 0
+      by-order true t = sym k ∙ f .keys j i (ltb-true j i t) li k
+      by-order false t =
+          let g : i < j = omega (arith, ltb-false j i t, o) in
+          f .keys i j g lj (sym k)
 
--- what is decided keeps a fit table fit
-abbrev Keeps : List Call → Ran → Type 0
-Keeps ys d = FitTable (set ys (d .at) (d .call))
+  -- what is decided keeps a fit table fit
+  abbrev Keeps : List Call → Ran → Type 0
+  Keeps ys d = FitTable (set ys (d .at) (d .call))
 
-refusal-keeps : (ys : List Call) → FitTable ys → (a : Answer) → Keeps ys (refusedAt (length ys) a)
-refusal-keeps ys f a = rw (past-the-end ys a .0) f
+  refusal-keeps : (ys : List Call) → FitTable ys → (a : Answer) → Keeps ys (refusedAt (length ys) a)
+  refusal-keeps ys f a = rw (past-the-end ys a .0) f
 
-opening-keeps : (ys : List Call) → FitTable ys → (key : ℕ) → (key ≡ 0 → ⊥) → first key 0 ys ≡ Nothing → (wanted : Wanted) (free : Found) → first 0 0 ys ≡ free → Keeps ys (openingAt (length ys) free key wanted)
-opening-keeps ys f key n none wanted (At i c) p =
-    let a : FoundAt 0 0 i c ys = found-at 0 0 i c ys p in
-    let li : i < length ys = omega (arith, a .at, a .inside) in
-    put-fit ys f i (openedFor key wanted .call) li (opened-fit key wanted n)
-    (λ j o l e. absurd (true≢false (sym (stands-on-record key j ys l e) ∙ (sym (on-record key 0 ys) ∙ ap isAt none))))
-opening-keeps ys f key n none wanted Nothing p = refusal-keeps ys f NoEmptyRecord
+  opening-keeps : (ys : List Call) → FitTable ys → (key : ℕ) → (key ≡ 0 → ⊥) → first key 0 ys ≡ Nothing → (wanted : Wanted) (free : Found) → first 0 0 ys ≡ free → Keeps ys (openingAt (length ys) free key wanted)
+  opening-keeps ys f key n none wanted (At i c) p =
+      let a : FoundAt 0 0 i c ys = found-at 0 0 i c ys p in
+      let li : i < length ys = omega (arith, a .at, a .inside) in
+      put-fit ys f i (openedFor key wanted .call) li (opened-fit key wanted n)
+      (λ j o l e. absurd (true≢false (sym (stands-on-record key j ys l e) ∙ (sym (on-record key 0 ys) ∙ ap isAt none))))
+  opening-keeps ys f key n none wanted Nothing p = refusal-keeps ys f NoEmptyRecord
 
-opening-by : (ys : List Call) → FitTable ys → (key : ℕ) → (key ≡ 0 → ⊥) → (wanted : Wanted) (found : Found) → first key 0 ys ≡ found → Keeps ys (openingBy (length ys) found (first 0 0 ys) key wanted)
-opening-by ys f key n wanted (At i c) p = refusal-keeps ys f KeyOnRecord
-opening-by ys f key n wanted Nothing p = opening-keeps ys f key n p wanted (first 0 0 ys) refl
+  opening-by : (ys : List Call) → FitTable ys → (key : ℕ) → (key ≡ 0 → ⊥) → (wanted : Wanted) (found : Found) → first key 0 ys ≡ found → Keeps ys (openingBy (length ys) found (first 0 0 ys) key wanted)
+  opening-by ys f key n wanted (At i c) p = refusal-keeps ys f KeyOnRecord
+  opening-by ys f key n wanted Nothing p = opening-keeps ys f key n p wanted (first 0 0 ys) refl
 
-meeting-keeps : (ys : List Call) → FitTable ys → (key : ℕ) → (key ≡ 0 → ⊥) → (found : Found) → first key 0 ys ≡ found → (e : Event) → Keeps ys (meetingAt (length ys) found e)
-meeting-keeps ys f key n (At i c) p e =
-    let a : FoundAt key 0 i c ys = found-at key 0 i c ys p in
-    let li : i < length ys = omega (arith, a .at, a .inside) in
-    let ip : i ≡ a .place = omega (arith, a .at) in
-    let here : getD ys i emptied ≡ c = ap (λ (x : ℕ). getD ys x emptied) ip ∙ a .there in
-    let cn : c .key ≡ 0 → ⊥ = λ q. n (sym (a .named) ∙ q) in
-    let fc : FitRecord c = rw here at (f .each i li) in
-    let r = after-event c e cn (fc .used cn) in
-    put-fit ys f i (eventOf c e .call) li (r .0)
-    (λ j o l q.
-    ⊎-elim (λ z. z)
-    (λ same.
-    let k : getD ys j emptied .key ≡ getD ys i emptied .key = q ∙ (same ∙ ap (λ (x : Call). x .key) (sym here)) in
-    absurd (cn (ap (λ (x : Call). x .key) (sym here) ∙ apart ys f i j li l o k)))
-    (r .1))
-meeting-keeps ys f key n Nothing p e = refusal-keeps ys f KeyNotOnRecord
+  meeting-keeps : (ys : List Call) → FitTable ys → (key : ℕ) → (key ≡ 0 → ⊥) → (found : Found) → first key 0 ys ≡ found → (e : Event) → Keeps ys (meetingAt half (length ys) found e)
+  meeting-keeps ys f key n (At i c) p e =
+      let a : FoundAt key 0 i c ys = found-at key 0 i c ys p in
+      let li : i < length ys = omega (arith, a .at, a .inside) in
+      let ip : i ≡ a .place = omega (arith, a .at) in
+      let here : getD ys i emptied ≡ c = ap (λ (x : ℕ). getD ys x emptied) ip ∙ a .there in
+      let cn : c .key ≡ 0 → ⊥ = λ q. n (sym (a .named) ∙ q) in
+      let fc : FitRecord c = rw here at (f .each i li) in
+      let r = after-event c e cn (fc .used cn) in
+      put-fit ys f i (handledAt half c e .call) li (r .0)
+      (λ j o l q.
+      ⊎-elim (λ z. z)
+      (λ same.
+      let k : getD ys j emptied .key ≡ getD ys i emptied .key = q ∙ (same ∙ ap (λ (x : Call). x .key) (sym here)) in
+      absurd (cn (ap (λ (x : Call). x .key) (sym here) ∙ apart ys f i j li l o k)))
+      (r .1))
+  meeting-keeps ys f key n Nothing p e = refusal-keeps ys f KeyNotOnRecord
 
-act-keeps : (ys : List Call) → FitTable ys → (key : ℕ) → (key ≡ 0 → ⊥) → (act : Act) → Keeps ys (actOf (length ys) (record { found = first key 0 ys; free = first 0 0 ys }) key act)
-act-keeps ys f key n (Opens wanted) = opening-by ys f key n wanted (first key 0 ys) refl
-act-keeps ys f key n (Meets e) = meeting-keeps ys f key n (first key 0 ys) refl e
+  act-keeps : (ys : List Call) → FitTable ys → (key : ℕ) → (key ≡ 0 → ⊥) → (act : Act) → Keeps ys (actOf half (length ys) (record { found = first key 0 ys; free = first 0 0 ys }) key act)
+  act-keeps ys f key n (Opens wanted) = opening-by ys f key n wanted (first key 0 ys) refl
+  act-keeps ys f key n (Meets e) = meeting-keeps ys f key n (first key 0 ys) refl e
 
-by-key : (ys : List Call) → FitTable ys → (key : ℕ) (act : Act) (b : Bool) → eqb key 0 ≡ b → Keeps ys (cond b (refusedAt (length ys) KeyZero) (actOf (length ys) (record { found = first key 0 ys; free = first 0 0 ys }) key act))
-by-key ys f key act true t = refusal-keeps ys f KeyZero
-by-key ys f key act false t = act-keeps ys f key (eqb-false key 0 t) act
+  by-key : (ys : List Call) → FitTable ys → (key : ℕ) (act : Act) (b : Bool) → eqb key 0 ≡ b → Keeps ys (cond b (refusedAt (length ys) KeyZero) (actOf half (length ys) (record { found = first key 0 ys; free = first 0 0 ys }) key act))
+  by-key ys f key act true t = refusal-keeps ys f KeyZero
+  by-key ys f key act false t = act-keeps ys f key (eqb-false key 0 t) act
 
-pub stays-fit : claim.StaysFit
-stays-fit ys key act f =
-    rw (ran-is ys key act, sought-is ys key)
-    (either (Keeps ys) (fitTable ys) _ _ (by-key ys f key act (eqb key 0) refl) (refusal-keeps ys f TableUnfit))
+  pub stays-fit : claim.StaysFit half
+  stays-fit ys key act f =
+      rw (ran-is half ys key act, sought-is ys key)
+      (either (Keeps ys) (fitTable ys) _ _ (by-key ys f key act (eqb key 0) refl) (refusal-keeps ys f TableUnfit))

@@ -9,7 +9,7 @@ use borrow.Author.Tests.{ltb-false}
 use Rattle.lent.specs.Search.{keysFrom}
 use Rattle.lent.proofs.Keys.{keys-length, keys-are}
 use Rattle.distinct.specs.Distinct.{distinctOf, uniqueOf}
-use Rattle.source.specs.declared.Call.{Call}
+use Rattle.call.specs.declared.Call.{Call}
 use Rattle.source_table.specs.Fit.{fitKeys}
 
 either : (m n : ℕ) (t : Bool) (a b : Bool) → ltb m n ≡ t → (n ≤ m → a ≡ b) → (not t && a) ≡ (not t && b)

@@ -1,4 +1,3 @@
-pub mod Told
 pub mod Shape
 pub mod Keys
 pub mod Search
@@ -7,4 +6,5 @@ pub mod Stored
 pub mod Claims
 pub mod Given
 pub mod Kept
+pub mod Source
 pub mod Bench

@@ -1,24 +1,23 @@
 -- What one reading of a row finds: the first record with the key, the first empty one, and whether every record is fit. Assumes nothing.
-use Prim.Native.Nat.{ℕ, zero, suc, _+_, _≤_, _<_, zero-le, suc-le-suc}
-use native.Mathlib.Nat.{not-suc-le-zero, le-of-suc-le-suc}
+use Prim.Native.Nat.{_+_, _<_, suc, zero, ℕ}
+use native.Mathlib.Nat.{le-of-suc-le-suc, not-suc-le-zero}
 use native.Mathlib.Omega.{arith}
-use native.Mathlib.Numerals.{add-one}
-use mathlib.Core.Path.{_≡_, refl, sym, ap, _∙_}
-use mathlib.Core.Bool.{Bool, true, false, _&&_, _||_, cond, and-true, and-assoc}
+use mathlib.Core.Bool.{Bool, _&&_, _||_, and-assoc, and-true, cond, false, true}
 use mathlib.Core.List.{List, [], _∷_}
+use mathlib.Core.Path.{_∙_, _≡_, ap, refl, sym}
 use lib.Dec.{eqb}
-use lib.ListN.{length, getD}
-use borrow.Author.Tests.{eqb-true, eqb-false, eq-eqb}
+use lib.ListN.{getD, length}
+use borrow.Author.Tests.{eq-eqb, eqb-false, eqb-true}
 use Rattle.lent.specs.Search.{firstFrom, readFrom}
-use Rattle.source.specs.declared.Call.{Call}
-use Rattle.source.specs.Record.{emptied}
+use Rattle.call.specs.Record.{emptied}
+use Rattle.call.specs.declared.Call.{Call}
+use Rattle.source_table.specs.Claims.{callOf, onRecord}
+use Rattle.source_table.specs.Fit.{everyFit, fitRecord}
+use Rattle.source_table.specs.Table.{laterOf, seenOf, soughtAtStart, soughtIn, soughtOf, startOf, stepOf}
 use Rattle.source_table.specs.declared.Found.{Found}
 use Rattle.source_table.specs.declared.Found.the-variants.{At, Nothing}
-use Rattle.source_table.specs.declared.Sought.{Sought}
 use Rattle.source_table.specs.declared.Seen.{Seen}
-use Rattle.source_table.specs.Fit.{fitRecord, everyFit}
-use Rattle.source_table.specs.Claims.{onRecord, callOf}
-use Rattle.source_table.specs.Table.{laterOf, soughtAtStart, soughtOf, soughtIn, startOf, stepOf, seenOf}
+use Rattle.source_table.specs.declared.Sought.{Sought}
 
 -- the first record with a key, where the first of the row stands at i
 abbrev pub first : ℕ → ℕ → List Call → Found

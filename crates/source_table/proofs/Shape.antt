@@ -2,10 +2,10 @@
 use mathlib.Core.Path.{refl}
 use mir.Syntax.{w64}
 use Rattle.lent.proofs.Record.{Plain, uint, enum, Row, struct, Field, Key, part-is}
-use Rattle.source.proofs.Call as Call
-use Rattle.source.proofs.Call.Laws as Call′
-use Rattle.source_table.proofs.Act as Act
-use Rattle.source_table.proofs.Act.Laws as Act′
+use Rattle.call.proofs.Call as Call
+use Rattle.call.proofs.Call.Laws as Call′
+use Rattle.events.proofs.Act as Act
+use Rattle.events.proofs.Act.Laws as Act′
 use Rattle.source_table.proofs.Sought as Sought
 use Rattle.source_table.proofs.Sought.Laws as Sought′
 use Rattle.source_table.proofs.Seen as Seen

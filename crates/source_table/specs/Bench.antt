@@ -1,29 +1,29 @@
 -- The bench run of 01, B1 to B14, in a single statement over the list: events, answers, signals, states and record numbers as the document prints them, for calls by
 -- key 7 with hard on and symmetric soft, in a row of any length. Assumes nothing.
-use Prim.Native.Nat.{ℕ, zero, suc}
-use mathlib.Core.Path.{_≡_}
+use Prim.Native.Nat.{ℕ}
 use mathlib.Core.Bool.{true}
 use mathlib.Core.List.{List, [], _∷_}
+use mathlib.Core.Path.{_≡_}
 use lib.ListN.{replicate}
+use Rattle.signal.specs.Causes.{complete, inProgress, oldNumber, unsupported}
+use Rattle.signal.specs.Numbers.{answerNumber}
+use Rattle.signal.specs.Signals.{connectOn, places, rejection, releaseOf, setupOn, switchTo}
 use Rattle.signal.specs.declared.Crankback.the-variants.{NoCrankback}
 use Rattle.signal.specs.declared.Kind.the-variants.{IncumbentRelease, ReroutingRelease}
 use Rattle.signal.specs.declared.ReceivedCause.the-variants.{NoCause, WithCause}
 use Rattle.signal.specs.declared.SentCause.the-variants.{Absent, Numbered}
-use Rattle.signal.specs.declared.Services.{Services}
 use Rattle.signal.specs.declared.Signal.{Signal}
 use Rattle.signal.specs.declared.Soft.the-variants.{Symmetric}
 use Rattle.signal.specs.declared.Switchover.{Switchover}
 use Rattle.signal.specs.declared.Wanted.the-variants.{Named}
-use Rattle.signal.specs.Causes.{complete, oldNumber, inProgress, unsupported}
-use Rattle.signal.specs.Signals.{switchTo, setupOn, connectOn, releaseOf, rejection, places}
-use Rattle.signal.specs.Numbers.{answerNumber}
-use Rattle.source_states.specs.declared.State.{State}
-use Rattle.source_states.specs.declared.State.the-variants.{Idle, SoftTriggered, SoftProceeding, SoftInitiated, Awaiting}
-use Rattle.source_states.specs.declared.Event.the-variants.{Trigger, PathFound, Connect, Setup, FromCalled, Ready}
-use Rattle.source.specs.declared.Call.{Call}
-use Rattle.source.specs.Record.{emptied}
-use Rattle.source_table.specs.declared.Act.{Act}
-use Rattle.source_table.specs.declared.Act.the-variants.{Opens, Meets}
+use Rattle.events.specs.declared.Act.{Act}
+use Rattle.events.specs.declared.Act.the-variants.{Meets, Opens}
+use Rattle.events.specs.declared.Event.the-variants.{Connect, FromDomain, PathFound, Ready, Setup, Trigger}
+use Rattle.rows.specs.declared.State.{State}
+use Rattle.rows.specs.declared.State.the-variants.{Awaiting, Idle, SoftInitiated, SoftProceeding, SoftTriggered}
+use Rattle.call.specs.Events.{sourceHalf}
+use Rattle.call.specs.Record.{emptied}
+use Rattle.call.specs.declared.Call.{Call}
 use Rattle.source_table.specs.Table.{ranOf, tableOf}
 
 -- what a step of a run shows: the answer's number, the signals, and the whole row
@@ -37,11 +37,11 @@ abbrev pub runOf : List Act → List Call → List Step
 runOf [] ys = []
 runOf (act ∷ more) ys =
     record {
-      answer = answerNumber (ranOf ys 7 act .done .answer);
-      signals = ranOf ys 7 act .done .signals;
-      table = tableOf ys 7 act;
+      answer = answerNumber (ranOf sourceHalf ys 7 act .done .answer);
+      signals = ranOf sourceHalf ys 7 act .done .signals;
+      table = tableOf sourceHalf ys 7 act;
     }
-    ∷ runOf more (tableOf ys 7 act)
+    ∷ runOf more (tableOf sourceHalf ys 7 act)
 
 abbrev pub clearing : Switchover
 clearing = record { code = 1 }
@@ -62,8 +62,8 @@ benchRun =
     ∷ Meets (Setup immediate 9)
     ∷ Meets (Setup clearing 5)
     ∷ Meets Ready
-    ∷ Meets (FromCalled 1 (WithCause complete) NoCrankback)
-    ∷ Meets (FromCalled 1 NoCause NoCrankback)
+    ∷ Meets (FromDomain 1 (WithCause complete) NoCrankback)
+    ∷ Meets (FromDomain 1 NoCause NoCrankback)
     ∷ Meets Trigger
     ∷ Meets PathFound
     ∷ Meets (Setup clearing 6)

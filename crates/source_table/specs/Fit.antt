@@ -1,15 +1,16 @@
 -- What makes a table fit (01, 101), record by record and as a whole, as the code tests it. Assumes nothing.
 use Prim.Native.Nat.{ℕ}
-use mathlib.Core.Bool.{Bool, true, false, not, _&&_, cond}
+use mathlib.Core.Bool.{Bool, _&&_, cond, false, not, true}
 use mathlib.Core.List.{List, [], _∷_, map}
-use lib.Dec.{eqb, ltb, leb}
+use lib.Dec.{eqb, leb, ltb}
 use lib.ListN.{length}
 use Rattle.distinct.specs.Distinct.{distinctOf}
 use Rattle.signal.specs.Numbers.{softNumber}
-use Rattle.source_states.specs.declared.State.{State}
-use Rattle.source_states.specs.declared.State.the-variants.{Null, Idle, HardTriggered, HardProceeding, SoftTriggered, SoftProceeding, SoftInitiated, Awaiting}
-use Rattle.source_states.specs.States.{isNull}
-use Rattle.source.specs.declared.Call.{Call}
+use Rattle.rows.specs.States.{isNull}
+use Rattle.rows.specs.declared.State.{State}
+use Rattle.rows.specs.declared.State.the-variants.{Awaiting, HardUnderway, HardWaiting, Idle, Null, SoftInitiated, SoftProceeding}
+use Rattle.rows.specs.declared.State.the-variants.{SoftTriggered}
+use Rattle.call.specs.declared.Call.{Call}
 
 -- an empty record is all empty: hard off, soft none, state Null, every number 0
 abbrev pub isEmptied : Call → Bool
@@ -28,8 +29,8 @@ areWithin last i r = not (eqb i r) && (isWithin last i && isWithin last r)
 abbrev pub fitHeld : ℕ → State → Bool
 fitHeld last Null = false
 fitHeld last (Idle i) = isWithin last i
-fitHeld last HardTriggered = true
-fitHeld last (HardProceeding r) = isWithin last r
+fitHeld last HardWaiting = true
+fitHeld last (HardUnderway r) = isWithin last r
 fitHeld last (SoftTriggered i) = isWithin last i
 fitHeld last (SoftProceeding i r) = areWithin last i r
 fitHeld last (SoftInitiated i r) = areWithin last i r

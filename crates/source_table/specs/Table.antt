@@ -1,28 +1,28 @@
--- One opening or event by key, over a row of records: the answer and signals, and the whole new row (01, "The table and its records", "Numbers of refusal").
+-- One opening or event by key, over a row of records, at either end: the answer and signals, and the whole new row (01, "The table and its records", "Numbers of refusal").
 -- Assumes nothing.
 use Prim.Native.Nat.{ℕ}
-use mathlib.Core.Bool.{Bool, true, false, _&&_, cond}
+use mathlib.Core.Bool.{Bool, _&&_, cond, false, true}
 use mathlib.Core.List.{List, []}
 use lib.Dec.{eqb}
 use lib.ListN.{length, set}
-use Rattle.lent.specs.Search.{readFrom, keysFrom}
-use Rattle.signal.specs.declared.Answer.{Answer}
-use Rattle.signal.specs.declared.Answer.the-variants.{TableUnfit, KeyZero, KeyOnRecord, NoEmptyRecord, KeyNotOnRecord}
-use Rattle.signal.specs.declared.Wanted.{Wanted}
+use Rattle.lent.specs.Search.{keysFrom, readFrom}
 use Rattle.signal.specs.Signals.{places}
-use Rattle.source_states.specs.declared.Event.{Event}
-use Rattle.source.specs.declared.Call.{Call}
-use Rattle.source.specs.declared.Outcome.{Outcome}
-use Rattle.source.specs.Record.{emptied, openedFor}
-use Rattle.source.specs.Events.{eventOf}
-use Rattle.source_table.specs.declared.Act.{Act}
-use Rattle.source_table.specs.declared.Act.the-variants.{Opens, Meets}
+use Rattle.signal.specs.declared.Answer.{Answer}
+use Rattle.signal.specs.declared.Answer.the-variants.{KeyNotOnRecord, KeyOnRecord, KeyZero, NoEmptyRecord, TableUnfit}
+use Rattle.signal.specs.declared.Wanted.{Wanted}
+use Rattle.events.specs.declared.Act.{Act}
+use Rattle.events.specs.declared.Act.the-variants.{Meets, Opens}
+use Rattle.events.specs.declared.Event.{Event}
+use Rattle.call.specs.Events.{Half, handledAt}
+use Rattle.call.specs.Record.{emptied, openedFor}
+use Rattle.call.specs.declared.Call.{Call}
+use Rattle.call.specs.declared.Outcome.{Outcome}
+use Rattle.source_table.specs.Fit.{fitKeys, fitRecord}
 use Rattle.source_table.specs.declared.Found.{Found}
 use Rattle.source_table.specs.declared.Found.the-variants.{At, Nothing}
-use Rattle.source_table.specs.declared.Sought.{Sought}
-use Rattle.source_table.specs.declared.Seen.{Seen}
 use Rattle.source_table.specs.declared.Ran.{Ran}
-use Rattle.source_table.specs.Fit.{fitRecord, fitKeys}
+use Rattle.source_table.specs.declared.Seen.{Seen}
+use Rattle.source_table.specs.declared.Sought.{Sought}
 
 abbrev pub isMissing : Found → Bool
 isMissing (At j d) = false
@@ -79,36 +79,37 @@ openingBy n Nothing free key wanted = openingAt n free key wanted
 abbrev pub openingOf : ℕ → Sought → ℕ → Wanted → Ran
 openingOf n s key wanted = openingBy n (s .found) (s .free) key wanted
 
--- an event meets the record with its key (105 where there is none), and follows that record's row
-abbrev pub meetingAt : ℕ → Found → Event → Ran
-meetingAt n (At i c) e = placedAt i (eventOf c e)
-meetingAt n Nothing e = refusedAt n KeyNotOnRecord
+module _ (half : Half) where
+  -- an event meets the record with its key (105 where there is none), and follows that record's row
+  abbrev pub meetingAt : ℕ → Found → Event → Ran
+  meetingAt n (At i c) e = placedAt i (handledAt half c e)
+  meetingAt n Nothing e = refusedAt n KeyNotOnRecord
 
-abbrev pub meetingOf : ℕ → Sought → Event → Ran
-meetingOf n s e = meetingAt n (s .found) e
+  abbrev pub meetingOf : ℕ → Sought → Event → Ran
+  meetingOf n s e = meetingAt n (s .found) e
 
-abbrev pub actOf : ℕ → Sought → ℕ → Act → Ran
-actOf n s key (Opens wanted) = openingOf n s key wanted
-actOf n s key (Meets e) = meetingOf n s e
+  abbrev pub actOf : ℕ → Sought → ℕ → Act → Ran
+  actOf n s key (Opens wanted) = openingOf n s key wanted
+  actOf n s key (Meets e) = meetingOf n s e
 
--- 102, key 0, before the key is looked for
-abbrev pub decideFitOf : ℕ → Sought → ℕ → Act → Ran
-decideFitOf n s key act = cond (eqb key 0) (refusedAt n KeyZero) (actOf n s key act)
+  -- 102, key 0, before the key is looked for
+  abbrev pub decideFitOf : ℕ → Sought → ℕ → Act → Ran
+  decideFitOf n s key act = cond (eqb key 0) (refusedAt n KeyZero) (actOf n s key act)
 
--- 101 first of all
-abbrev pub decideOf : ℕ → Seen → Bool → ℕ → Act → Ran
-decideOf n s ok key act = cond (ok && s .sound) (decideFitOf n (s .sought) key act) (refusedAt n TableUnfit)
+  -- 101 first of all
+  abbrev pub decideOf : ℕ → Seen → Bool → ℕ → Act → Ran
+  decideOf n s ok key act = cond (ok && s .sound) (decideFitOf n (s .sought) key act) (refusedAt n TableUnfit)
 
--- one opening or event over any row, and the row after it
-abbrev pub ranOf : List Call → ℕ → Act → Ran
-ranOf ys key act = decideOf (length ys) (seenOf ys key) (fitKeys ys) key act
+  -- one opening or event over any row, and the row after it
+  abbrev pub ranOf : List Call → ℕ → Act → Ran
+  ranOf ys key act = decideOf (length ys) (seenOf ys key) (fitKeys ys) key act
 
-abbrev pub tableOf : List Call → ℕ → Act → List Call
-tableOf ys key act = set ys (ranOf ys key act .at) (ranOf ys key act .call)
+  abbrev pub tableOf : List Call → ℕ → Act → List Call
+  tableOf ys key act = set ys (ranOf ys key act .at) (ranOf ys key act .call)
 
--- the same without 101
-abbrev pub ranFitOf : List Call → ℕ → Act → Ran
-ranFitOf ys key act = decideFitOf (length ys) (soughtIn ys key) key act
+  -- the same without 101
+  abbrev pub ranFitOf : List Call → ℕ → Act → Ran
+  ranFitOf ys key act = decideFitOf (length ys) (soughtIn ys key) key act
 
-abbrev pub tableFitOf : List Call → ℕ → Act → List Call
-tableFitOf ys key act = set ys (ranFitOf ys key act .at) (ranFitOf ys key act .call)
+  abbrev pub tableFitOf : List Call → ℕ → Act → List Call
+  tableFitOf ys key act = set ys (ranFitOf ys key act .at) (ranFitOf ys key act .call)

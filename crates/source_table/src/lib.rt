@@ -4,24 +4,20 @@
 // lent. All that they decide, covered code decides on plain values.
 ghost use mathlib.Core.Path.{_≡_};
 ghost use lib.Dec.{eqb};
+ghost use Rattle.call.specs.Events.{sourceHalf};
 ghost use lib.ListN.{set};
 ghost use mathlib.Core.Bool.{_&&_};
-ghost use Rattle.source_states.specs.declared.State.the-variants.{SoftProceeding};
+ghost use Rattle.rows.specs.declared.State.the-variants.{SoftProceeding};
 ghost use Rattle.source_table.specs.Fit.{isEmptied, isWithin, fitHeld, fitRecord};
 ghost use Rattle.source_table.specs.Table.{isMissing, laterOf, soughtAtStart, soughtOf, soughtIn, startOf, stepOf, seenOf, keysOf, refusedAt, placedAt, openingOf, meetingOf, decideFitOf, decideOf, ranOf, tableOf, ranFitOf, tableFitOf};
+use call::Call;
+use call::Outcome;
+use events::Act;
+use events::Event;
+use rows::State;
 use signal::Answer;
 use signal::Signal;
 use signal::Wanted;
-use source::Call;
-use source::Event;
-use source::Outcome;
-use source_states::State;
-
-// What is done with a key: a call is opened, or an event meets it.
-pub enum Act {
-    Opens(Wanted),
-    Meets(Event),
-}
 
 // A record and its place.
 pub enum Found {
@@ -109,8 +105,8 @@ fn held_fit(last: u16, state: State) -> bool
     match state {
         State::Null => false,
         State::Idle(i) => within(last, i),
-        State::HardTriggered => true,
-        State::HardProceeding(r) => within(last, r),
+        State::HardWaiting => true,
+        State::HardUnderway(r) => within(last, r),
         State::SoftTriggered(i) => within(last, i),
         State::SoftProceeding(i, r) => both_within(last, i, r),
         State::SoftInitiated(i, r) => both_within(last, i, r),
@@ -291,7 +287,7 @@ fn opening(n: usize, s: Sought, key: u32, wanted: Wanted) -> Ran
 
 // 105; else the record's own row.
 fn meeting(n: usize, s: Sought, event: Event) -> Ran
-    ensures { λ r. ⌜ r ≡ meetingOf n s event ⌝ }
+    ensures { λ r. ⌜ r ≡ meetingOf sourceHalf n s event ⌝ }
 {
     let found = s.found;
     match found {
@@ -302,7 +298,7 @@ fn meeting(n: usize, s: Sought, event: Event) -> Ran
 
 // 102 comes before the key is looked for.
 fn decide_fit(n: usize, s: Sought, key: u32, act: Act) -> Ran
-    ensures { λ r. ⌜ r ≡ decideFitOf n s key act ⌝ }
+    ensures { λ r. ⌜ r ≡ decideFitOf sourceHalf n s key act ⌝ }
 {
     if key == 0 {
         return refused(n, Answer::KeyZero);
@@ -315,7 +311,7 @@ fn decide_fit(n: usize, s: Sought, key: u32, act: Act) -> Ran
 
 // 101 comes first of all.
 fn decide(n: usize, s: Seen, ok: bool, key: u32, act: Act) -> Ran
-    ensures { λ r. ⌜ r ≡ decideOf n s ok key act ⌝ }
+    ensures { λ r. ⌜ r ≡ decideOf sourceHalf n s ok key act ⌝ }
 {
     if ok {
         if s.sound {
@@ -329,7 +325,7 @@ fn decide(n: usize, s: Seen, ok: bool, key: u32, act: Act) -> Ran
 
 // One opening or event by key, over any row of records.
 pub fn handle(t: &mut [Call], key: u32, act: Act) -> Done
-    ensures { λ r. ⌜ (r ≡ ranOf (now (t .entry)) key act .done) × (now (t .exit) ≡ tableOf (now (t .entry)) key act) ⌝ }
+    ensures { λ r. ⌜ (r ≡ ranOf sourceHalf (now (t .entry)) key act .done) × (now (t .exit) ≡ tableOf sourceHalf (now (t .entry)) key act) ⌝ }
 {
     let mut keys = [0u32; 1024];
     let s = survey(t, key, &mut keys);
@@ -342,7 +338,7 @@ pub fn handle(t: &mut [Call], key: u32, act: Act) -> Done
 
 // The same without the check of the table, for a row that is known to be fit.
 pub fn handle_fit(t: &mut [Call], key: u32, act: Act) -> Done
-    ensures { λ r. ⌜ (r ≡ ranFitOf (now (t .entry)) key act .done) × (now (t .exit) ≡ tableFitOf (now (t .entry)) key act) ⌝ }
+    ensures { λ r. ⌜ (r ≡ ranFitOf sourceHalf (now (t .entry)) key act .done) × (now (t .exit) ≡ tableFitOf sourceHalf (now (t .entry)) key act) ⌝ }
 {
     let s = look(t, key);
     let d = decide_fit(t.len(), s, key, act);
@@ -352,7 +348,7 @@ pub fn handle_fit(t: &mut [Call], key: u32, act: Act) -> Done
 
 // The checked entry over a table of 64 by value, for callers that need no walk of their own.
 pub fn handle64(table: [Call; 64], key: u32, act: Act) -> Sixty
-    ensures { λ r. ⌜ (r .done ≡ ranOf table key act .done) × (r .table ≡ tableOf table key act) ⌝ }
+    ensures { λ r. ⌜ (r .done ≡ ranOf sourceHalf table key act .done) × (r .table ≡ tableOf sourceHalf table key act) ⌝ }
 {
     let mut t = table;
     let done = handle(&mut t, key, act);

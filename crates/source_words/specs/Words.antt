@@ -5,9 +5,9 @@ use mathlib.Core.List.{List, _++_}
 use Rattle.lines.specs.Lines.{ascii, numberText}
 use Rattle.signal.specs.declared.Soft.{Soft}
 use Rattle.signal.specs.Numbers.{softNumber}
-use Rattle.source_states.specs.declared.State.{State}
-use Rattle.source_states.specs.States.{stateNumber, incumbentOf, reroutingOf}
-use Rattle.source.specs.declared.Call.{Call}
+use Rattle.rows.specs.declared.State.{State}
+use Rattle.rows.specs.States.{stateNumber, incumbentOf, reroutingOf}
+use Rattle.call.specs.declared.Call.{Call}
 
 -- a number behind another
 abbrev pub furtherText : ℕ → List ℕ

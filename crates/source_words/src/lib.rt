@@ -3,9 +3,9 @@ ghost use mathlib.Core.Path.{_≡_};
 ghost use mathlib.Core.Bool.{cond};
 ghost use Rattle.lines.specs.Lines.{page, putText};
 ghost use Rattle.source_words.specs.Words.{furtherText, servicesText, connectionsText, callText};
+use call::Call;
+use rows::State;
 use signal::Soft;
-use source::Call;
-use source_states::State;
 
 fn bit(on: bool) -> u64
     ensures { λ r. ⌜ r ≡ cond on 1 0 ⌝ }

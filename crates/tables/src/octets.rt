@@ -1,8 +1,8 @@
 // The octets of a case (docs/TABLES.md, "A case").
 ghost use Prim.Native.Nat.{_≤_};
+use call::Call;
+use rows::State;
 use signal::Soft;
-use source::Call;
-use source_states::State;
 
 // Records, and whether every value in them is named.
 pub(crate) struct Table {
@@ -100,8 +100,8 @@ fn state(number: u8, incumbent: u16, rerouting: u16) -> State {
     match number {
         0 => State::Null,
         1 => State::Idle(incumbent),
-        2 => State::HardTriggered,
-        3 => State::HardProceeding(rerouting),
+        2 => State::HardWaiting,
+        3 => State::HardUnderway(rerouting),
         4 => State::SoftTriggered(incumbent),
         5 => State::SoftProceeding(incumbent, rerouting),
         6 => State::SoftInitiated(incumbent, rerouting),

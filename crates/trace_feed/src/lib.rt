@@ -4,10 +4,10 @@
 ghost use Prim.Native.Nat.{_≤_};
 ghost use mathlib.Core.Path.{_≡_};
 ghost use lib.ListN.{length};
+use call::Call;
 use libc::STDERR_FILENO;
 use libc::STDIN_FILENO;
 use libc::STDOUT_FILENO;
-use source::Call;
 use trace_line::Columns;
 
 // Room for the lines of 4,096 records, of 160 octets each; the longest has less.

@@ -10,8 +10,8 @@ use Rattle.signal.specs.declared.SentCause.the-variants.{Numbered}
 use Rattle.signal.specs.declared.Soft.the-variants.{Symmetric}
 use Rattle.signal.specs.Causes.{complete}
 use Rattle.signal.specs.Signals.{switchTo, releaseOf, places}
-use Rattle.source_states.specs.declared.State.the-variants.{Idle, Awaiting}
-use Rattle.source.specs.declared.Outcome.{Outcome}
+use Rattle.rows.specs.declared.State.the-variants.{Idle, Awaiting}
+use Rattle.call.specs.declared.Outcome.{Outcome}
 use Rattle.trace_line.specs.declared.Columns.the-variants.{Trace, Watch}
 use Rattle.trace_line.specs.Line.{firstLine, lineText}
 

@@ -5,9 +5,9 @@ use Rattle.lines.specs.Lines.{ascii, numberText}
 use Rattle.signal.specs.declared.Answer.{Answer}
 use Rattle.signal.specs.Numbers.{answerNumber}
 use Rattle.signal_words.specs.Words.{signalsText}
-use Rattle.source_states.specs.declared.State.{State}
-use Rattle.source_states.specs.States.{stateNumber, incumbentOf, reroutingOf}
-use Rattle.source.specs.declared.Outcome.{Outcome}
+use Rattle.rows.specs.declared.State.{State}
+use Rattle.rows.specs.States.{stateNumber, incumbentOf, reroutingOf}
+use Rattle.call.specs.declared.Outcome.{Outcome}
 use Rattle.trace_line.specs.declared.Columns.{Columns}
 use Rattle.trace_line.specs.declared.Columns.the-variants.{Trace, Watch}
 

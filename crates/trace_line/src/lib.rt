@@ -2,9 +2,9 @@
 ghost use mathlib.Core.Path.{_≡_};
 ghost use Rattle.lines.specs.Lines.{page, putText};
 ghost use Rattle.trace_line.specs.Line.{firstLine, numbersText, restText, lineText};
+use call::Outcome;
+use rows::State;
 use signal::Answer;
-use source::Outcome;
-use source_states::State;
 
 // What a line shows: the six numbers of the trace; or, for the watch, the last number given and the signals too.
 pub enum Columns {

@@ -9,15 +9,16 @@ use lib.Seq.{drop-drop}
 use Rattle.distinct.specs.Distinct.{has, distinctOf}
 use Rattle.lent.specs.Search.{readFrom}
 use Rattle.lines.specs.Lines.{numberText, spelled}
-use Rattle.source.specs.declared.Call.{Call}
-use Rattle.source.specs.Record.{emptied}
+use Rattle.call.specs.Events.{sourceHalf}
+use Rattle.call.specs.declared.Call.{Call}
+use Rattle.call.specs.Record.{emptied}
 use Rattle.signal.specs.Numbers.{answerNumber}
 use Rattle.source_table.specs.declared.Ran.{Ran}
 use Rattle.source_table.specs.Table.{ranOf, tableOf, ranFitOf, tableFitOf}
 use Rattle.source_table.specs.Claims.{FitTable}
 use Rattle.source_table.proofs.Fit.{fit-exactly}
-use Rattle.source_table.proofs.Claims.{fit-needs-no-check}
-use Rattle.source_table.proofs.Kept.{stays-fit as step-stays-fit}
+use Rattle.source_table.proofs.Source.{fit-needs-no-check}
+use Rattle.source_table.proofs.Source.{stays-fit as step-stays-fit}
 use Rattle.event_record.specs.declared.Request.{Request}
 use Rattle.event_record.specs.declared.Request.the-variants.{Bad, Asks}
 use Rattle.event_record.specs.Record.{decodedOf}
@@ -46,7 +47,7 @@ same-run : (asked : List Asked) (ys : List Call) → FitTable ys → checkedRun 
 same-run [] ys f = refl
 same-run (a ∷ more) ys f =
     let e = fit-needs-no-check ys (a .key) (a .act) (fit-exactly ys .1 f) in
-    ap (λ (l : List Step). stepBy (ranOf ys (a .key) (a .act)) (tableOf ys (a .key) (a .act)) ∷ l) (same-run more (tableOf ys (a .key) (a .act)) (step-stays-fit ys (a .key) (a .act) f))
+    ap (λ (l : List Step). stepBy (ranOf sourceHalf ys (a .key) (a .act)) (tableOf sourceHalf ys (a .key) (a .act)) ∷ l) (same-run more (tableOf sourceHalf ys (a .key) (a .act)) (step-stays-fit ys (a .key) (a .act) f))
     ∙ (λ j. stepBy (sym (e .0) j) (sym (e .1) j) ∷ uncheckedRun more (sym (e .1) j))
 
 pub no-check-needed : claim.NoCheckNeeded
@@ -84,7 +85,7 @@ unfolding onRequest
 on-behind w front q key Bad = λ i. record { table = q .table; text = append-assoc front (q .text) badText i; count = q .count; good = false }
 on-behind w front q key (Asks act) = λ i.
     record {
-      table = tableOf (q .table) key act;
+      table = tableOf sourceHalf (q .table) key act;
       text = append-assoc front (q .text) (lineText w (q .count + 1) (shownOf (q .table) key act)) i;
       count = q .count + 1;
       good = true;

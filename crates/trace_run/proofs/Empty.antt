@@ -3,8 +3,8 @@ use Prim.Native.Nat.{ℕ, zero, suc, _≤_}
 use mathlib.Core.Path.{_≡_, refl, sym, ap, subst}
 use mathlib.Core.Bool.{true}
 use lib.ListN.{length, getD, replicate, length-replicate}
-use Rattle.source.specs.declared.Call.{Call}
-use Rattle.source.specs.Record.{emptied}
+use Rattle.call.specs.declared.Call.{Call}
+use Rattle.call.specs.Record.{emptied}
 use Rattle.source_table.specs.Fit.{fitTable}
 use Rattle.source_table.specs.Claims.{FitRecord, FitTable}
 use Rattle.source_table.proofs.Fit.{fit-exactly}

@@ -7,8 +7,8 @@ use mathlib.Core.List.{List, [], _∷_, _++_}
 use borrow.Author.Tests.{eq-eqb, ne-eqb}
 use lib.ListN.{length, take, drop, set, getD, drop-of-length-le}
 use lib.Seq.{drop-cons, take-suc, take-suc-set, take-all}
-use Rattle.source.specs.declared.Call.{Call}
-use Rattle.source.specs.Record.{emptied}
+use Rattle.call.specs.declared.Call.{Call}
+use Rattle.call.specs.Record.{emptied}
 use Rattle.trace_run.specs.Run.{recordAt}
 use Rattle.trace_run.specs.Placed.{indexOf, keysOf}
 

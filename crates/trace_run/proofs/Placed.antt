@@ -12,13 +12,13 @@ use lib.Seq.{getD-set-same, getD-set-other, set-getD}
 use borrow.Author.Tests.{eq-eqb, ne-eqb, eqb-false, eqb-true, lt-ltb, le-ltb, ltb-true, ltb-false}
 use Rattle.signal.specs.declared.Answer.the-variants.{KeyZero, KeyOnRecord, NoEmptyRecord, KeyNotOnRecord}
 use Rattle.signal.specs.declared.Wanted.{Wanted}
-use Rattle.source_states.specs.declared.Event.{Event}
-use Rattle.source.specs.declared.Call.{Call}
-use Rattle.source.specs.declared.Outcome.{Outcome}
-use Rattle.source.specs.Record.{emptied, openedFor}
-use Rattle.source.specs.Events.{eventOf}
-use Rattle.source_table.specs.declared.Act.{Act}
-use Rattle.source_table.specs.declared.Act.the-variants.{Opens, Meets}
+use Rattle.events.specs.declared.Event.{Event}
+use Rattle.call.specs.declared.Call.{Call}
+use Rattle.call.specs.declared.Outcome.{Outcome}
+use Rattle.call.specs.Record.{emptied, openedFor}
+use Rattle.call.specs.Events.{sourceHalf, eventOf}
+use Rattle.events.specs.declared.Act.{Act}
+use Rattle.events.specs.declared.Act.the-variants.{Opens, Meets}
 use Rattle.source_table.specs.declared.Found.{Found}
 use Rattle.source_table.specs.declared.Found.the-variants.{At, Nothing}
 use Rattle.source_table.specs.declared.Ran.{Ran}
@@ -27,7 +27,9 @@ use Rattle.source_table.specs.Table.{openingAt, openingBy, meetingAt, actOf, re
 use Rattle.source_table.specs.Claims.{FitRecord, FitTable, callOf}
 use Rattle.source_table.proofs.Search.{first, sought-is, FoundAt, found-at, isAt, on-record, stands-on-record}
 use Rattle.source_table.proofs.Fit.{fit-exactly}
-use Rattle.source_table.proofs.Claims.{past-the-end, fit-needs-no-check}
+use Rattle.source_table.proofs.Claims.{past-the-end}
+use Rattle.source_table.proofs.Source.{fit-needs-no-check}
+use Rattle.call.proofs.Source.{lawful}
 use Rattle.source_table.proofs.Kept.{after-event}
 use Rattle.trace_run.specs.Run.{shownOf}
 use Rattle.trace_run.specs.Placed.{keysOf, indexOf, placeOf, refusedWith, workedOn, unplacedFor}
@@ -146,7 +148,7 @@ module _ (ys : List Call) (f : FitTable ys) where
     event-shown i c e h =
         let cn : c .key ≡ 0 → ⊥ = λ q. z (sym (h .named) ∙ q) in
         let fc : FitRecord c = rw (h .there) at (f .each i (h .inside)) in
-        let r = after-event c e cn (fc .used cn) in
+        let r = after-event sourceHalf lawful c e cn (fc .used cn) in
         ⊎-elim
         (λ q. let g : eventOf c e .call ≡ emptied = r .0 .empty q in rw g (call-gone i (h .inside) (key-of (h .there) ∙ h .named)))
         (λ q. call-put i (eventOf c e .call) (h .inside) (h .before) (q ∙ h .named))
@@ -179,7 +181,7 @@ module _ (ys : List Call) (f : FitTable ys) (n : length ys ≡ 64) (key : ℕ) (
       rw (place-found i c (Opens wanted) h)
       (met-in ys key (Opens wanted) i _ (omega (arith, h .inside)) (rw (h .there, eq-eqb (c .key) key (h .named)) (q .0 ∙ sym same, q .1)))
 
-  event-found : (i : ℕ) (c : Call) (e : Event) → Here key ys i c → Met ys key (Meets e) (placeOf (keysOf ys) key (Meets e)) (meetingAt (length ys) (At i c) e)
+  event-found : (i : ℕ) (c : Call) (e : Event) → Here key ys i c → Met ys key (Meets e) (placeOf (keysOf ys) key (Meets e)) (meetingAt sourceHalf (length ys) (At i c) e)
   event-found i c e h =
       rw (place-found i c (Meets e) h)
       (met-in ys key (Meets e) i _ (omega (arith, h .inside)) (rw (h .there) (refl, shown-as (eventOf c e) _ (event-shown ys f key z i c e h))))
@@ -216,7 +218,7 @@ module _ (ys : List Call) (f : FitTable ys) (n : length ys ≡ 64) (key : ℕ) (
         rw (missed (Meets e) 64)
         (met-out ys key (Meets e) 64 _ (omega arith) (rw (ne-eqb key 0 z) (refusal-leaves ys key KeyNotOnRecord emptied unshown)))
 
-  act-met : (found : Found) → first key 0 ys ≡ found → (act : Act) → Met ys key act (placeOf (keysOf ys) key act) (actOf (length ys) (record { found = found; free = first 0 0 ys }) key act)
+  act-met : (found : Found) → first key 0 ys ≡ found → (act : Act) → Met ys key act (placeOf (keysOf ys) key act) (actOf sourceHalf (length ys) (record { found = found; free = first 0 0 ys }) key act)
   act-met (At i c) p (Opens wanted) = opening-found i c wanted (here key ys i c p)
   act-met (At i c) p (Meets e) = event-found i c e (here key ys i c p)
   act-met Nothing p (Opens wanted) = opening-missed (nowhere key ys p) wanted (first 0 0 ys) refl
@@ -232,22 +234,22 @@ zero-met ys f key act e =
     rw (place-zero (keysOf ys) key act e)
     (met-out ys key act 64 _ (omega arith) (rw (eq-eqb key 0 e) (refusal-leaves ys key KeyZero emptied shown)))
 
-by-key : (ys : List Call) → FitTable ys → length ys ≡ 64 → (key : ℕ) (act : Act) (b : Bool) → eqb key 0 ≡ b → Met ys key act (placeOf (keysOf ys) key act) (cond b (refusedAt (length ys) KeyZero) (actOf (length ys) (record { found = first key 0 ys; free = first 0 0 ys }) key act))
+by-key : (ys : List Call) → FitTable ys → length ys ≡ 64 → (key : ℕ) (act : Act) (b : Bool) → eqb key 0 ≡ b → Met ys key act (placeOf (keysOf ys) key act) (cond b (refusedAt (length ys) KeyZero) (actOf sourceHalf (length ys) (record { found = first key 0 ys; free = first 0 0 ys }) key act))
 by-key ys f n key act true t = zero-met ys f key act (eqb-true key 0 t)
 by-key ys f n key act false t = act-met ys f n key (eqb-false key 0 t) (first key 0 ys) refl act
 
-ran-met : (ys : List Call) → FitTable ys → length ys ≡ 64 → (key : ℕ) (act : Act) → Met ys key act (placeOf (keysOf ys) key act) (ranOf ys key act)
+ran-met : (ys : List Call) → FitTable ys → length ys ≡ 64 → (key : ℕ) (act : Act) → Met ys key act (placeOf (keysOf ys) key act) (ranOf sourceHalf ys key act)
 ran-met ys f n key act =
     rw (← fit-needs-no-check ys key act (fit-exactly ys .1 f) .0, sought-is ys key) (by-key ys f n key act (eqb key 0) refl)
 
 -- at a place of the table, the record there becomes what is worked on it, and that is shown
 pub placed : (ys : List Call) → FitTable ys → length ys ≡ 64 → (key : ℕ) (act : Act) (j : ℕ) → j ≡ placeOf (keysOf ys) key act → j < 64 →
-    (tableOf ys key act ≡ set ys j (workedOn (getD ys j emptied) key act .call)) × (shownOf ys key act ≡ workedOn (getD ys j emptied) key act)
+    (tableOf sourceHalf ys key act ≡ set ys j (workedOn (getD ys j emptied) key act .call)) × (shownOf ys key act ≡ workedOn (getD ys j emptied) key act)
 unfolding shownOf
 placed ys f n key act j e l = rw (← e) at (ran-met ys f n key act) .0 l
 
 -- past it, the table stays
 pub unplaced : (ys : List Call) → FitTable ys → length ys ≡ 64 → (key : ℕ) (act : Act) (j : ℕ) → j ≡ placeOf (keysOf ys) key act → 64 ≤ j →
-    (tableOf ys key act ≡ ys) × (shownOf ys key act ≡ unplacedFor key act)
+    (tableOf sourceHalf ys key act ≡ ys) × (shownOf ys key act ≡ unplacedFor key act)
 unfolding shownOf
 unplaced ys f n key act j e l = rw (← e) at (ran-met ys f n key act) .1 l

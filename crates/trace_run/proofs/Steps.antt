@@ -8,15 +8,16 @@ use mathlib.Core.List.{List, [], _∷_, _++_}
 use lib.ListN.{length, set, getD, length-set}
 use Rattle.lines.specs.Lines.{Page, page, putText}
 use Rattle.lines.proofs.Laws.{put-none, and-then}
-use Rattle.source.specs.declared.Call.{Call}
-use Rattle.source.specs.declared.Outcome.{Outcome}
-use Rattle.source.specs.Record.{emptied}
-use Rattle.source_table.specs.declared.Act.{Act}
+use Rattle.call.specs.Events.{sourceHalf}
+use Rattle.call.specs.declared.Call.{Call}
+use Rattle.call.specs.declared.Outcome.{Outcome}
+use Rattle.call.specs.Record.{emptied}
+use Rattle.events.specs.declared.Act.{Act}
 use Rattle.source_table.specs.Fit.{fitTable}
 use Rattle.source_table.specs.Table.{tableOf}
 use Rattle.source_table.specs.Claims.{FitTable}
 use Rattle.source_table.proofs.Fit.{fit-exactly}
-use Rattle.source_table.proofs.Kept.{stays-fit}
+use Rattle.source_table.proofs.Source.{stays-fit}
 use Rattle.event_record.specs.declared.Decoded.{Decoded}
 use Rattle.event_record.specs.declared.Request.the-variants.{Bad, Asks}
 use Rattle.event_record.specs.Record.{decodedOf}
@@ -53,7 +54,7 @@ module _ (w : Columns) (s : List ℕ) (p : Past) (r : ℕ) (d : Decoded) (good :
   one-bad x = opened ∙ ap (onRequest w (after w s p r) (d .key)) x
 
 on-good : (w : Columns) (q : Past) (key : ℕ) (act : Act) →
-    (onRequest w q key (Asks act) .table ≡ tableOf (q .table) key act)
+    (onRequest w q key (Asks act) .table ≡ tableOf sourceHalf (q .table) key act)
     × ((onRequest w q key (Asks act) .text ≡ q .text ++ lineText w (q .count + 1) (shownOf (q .table) key act))
     × ((onRequest w q key (Asks act) .count ≡ q .count + 1) × (onRequest w q key (Asks act) .good ≡ true)))
 unfolding onRequest
@@ -80,10 +81,10 @@ module _ (w : Columns) (s : List ℕ) (p : Past) (xs : List ℕ) (r : ℕ) (t : 
         and-then _ _ _ _ _ (here .text) put
         ∙ ap (putText (page xs 0)) (ap (λ (l : List ℕ). after w s p r .text ++ l) same ∙ sym (ap (λ (y : Past). y .text) is ∙ on-good w (after w s p r) (d .key) act .1 .0))
 
-    onward : (t′ : List Call) (ks′ : List ℕ) → t′ ≡ tableOf t (d .key) act → ks′ ≡ keysOf t′ → length t′ ≡ 64 → page z b ≡ putText (page xs 0) (after w s p (suc r) .text) → Standing w s p xs (suc r) t′ ks′ (n + 1) b z
+    onward : (t′ : List Call) (ks′ : List ℕ) → t′ ≡ tableOf sourceHalf t (d .key) act → ks′ ≡ keysOf t′ → length t′ ≡ 64 → page z b ≡ putText (page xs 0) (after w s p (suc r) .text) → Standing w s p xs (suc r) t′ ks′ (n + 1) b z
     onward t′ ks′ et ek l text =
         record {
-          table = et ∙ (ap (λ (y : List Call). tableOf y (d .key) act) (here .table) ∙ sym (ap (λ (y : Past). y .table) is ∙ on-good w (after w s p r) (d .key) act .0));
+          table = et ∙ (ap (λ (y : List Call). tableOf sourceHalf y (d .key) act) (here .table) ∙ sym (ap (λ (y : Past). y .table) is ∙ on-good w (after w s p r) (d .key) act .0));
           count = ap (λ (m : ℕ). m + 1) (here .count) ∙ sym (ap (λ (y : Past). y .count) is ∙ on-good w (after w s p r) (d .key) act .1 .1 .0);
           good = sym (ap (λ (y : Past). y .good) is ∙ on-good w (after w s p r) (d .key) act .1 .1 .1);
           text = text;

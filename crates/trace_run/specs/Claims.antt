@@ -8,9 +8,10 @@ use lib.ListN.{length, drop, replicate}
 use Rattle.lines.specs.Lines.{ascii}
 use Rattle.signal.specs.declared.Signal.{Signal}
 use Rattle.signal.specs.Numbers.{answerNumber}
-use Rattle.source.specs.declared.Call.{Call}
-use Rattle.source.specs.Record.{emptied}
-use Rattle.source_table.specs.declared.Act.{Act}
+use Rattle.call.specs.Events.{sourceHalf}
+use Rattle.call.specs.declared.Call.{Call}
+use Rattle.call.specs.Record.{emptied}
+use Rattle.events.specs.declared.Act.{Act}
 use Rattle.source_table.specs.Table.{ranOf, tableOf, ranFitOf, tableFitOf}
 use Rattle.source_table.specs.Claims.{FitTable}
 use Rattle.trace_line.specs.declared.Columns.{Columns}
@@ -63,14 +64,14 @@ pub record Asked : Type 0 where
 abbrev pub checkedRun : List Asked → List Call → List Step
 checkedRun [] ys = []
 checkedRun (a ∷ more) ys =
-    record { answer = answerNumber (ranOf ys (a .key) (a .act) .done .answer); signals = ranOf ys (a .key) (a .act) .done .signals; table = tableOf ys (a .key) (a .act) }
-    ∷ checkedRun more (tableOf ys (a .key) (a .act))
+    record { answer = answerNumber (ranOf sourceHalf ys (a .key) (a .act) .done .answer); signals = ranOf sourceHalf ys (a .key) (a .act) .done .signals; table = tableOf sourceHalf ys (a .key) (a .act) }
+    ∷ checkedRun more (tableOf sourceHalf ys (a .key) (a .act))
 
 abbrev pub uncheckedRun : List Asked → List Call → List Step
 uncheckedRun [] ys = []
 uncheckedRun (a ∷ more) ys =
-    record { answer = answerNumber (ranFitOf ys (a .key) (a .act) .done .answer); signals = ranFitOf ys (a .key) (a .act) .done .signals; table = tableFitOf ys (a .key) (a .act) }
-    ∷ uncheckedRun more (tableFitOf ys (a .key) (a .act))
+    record { answer = answerNumber (ranFitOf sourceHalf ys (a .key) (a .act) .done .answer); signals = ranFitOf sourceHalf ys (a .key) (a .act) .done .signals; table = tableFitOf sourceHalf ys (a .key) (a .act) }
+    ∷ uncheckedRun more (tableFitOf sourceHalf ys (a .key) (a .act))
 
 -- Demand 1, 01, 101: from an empty table the check for 101 decides nothing, over any sequence of openings and events: answers, signals and tables are the same without it.
 abbrev pub NoCheckNeeded : Type 0

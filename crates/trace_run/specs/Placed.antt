@@ -7,12 +7,12 @@ use lib.Dec.{eqb, ltb}
 use Rattle.signal.specs.declared.Answer.{Answer}
 use Rattle.signal.specs.declared.Answer.the-variants.{KeyZero, KeyOnRecord, NoEmptyRecord, KeyNotOnRecord}
 use Rattle.signal.specs.Signals.{places}
-use Rattle.source.specs.declared.Call.{Call}
-use Rattle.source.specs.declared.Outcome.{Outcome}
-use Rattle.source.specs.Record.{emptied, openedFor}
-use Rattle.source.specs.Events.{eventOf}
-use Rattle.source_table.specs.declared.Act.{Act}
-use Rattle.source_table.specs.declared.Act.the-variants.{Opens, Meets}
+use Rattle.call.specs.declared.Call.{Call}
+use Rattle.call.specs.declared.Outcome.{Outcome}
+use Rattle.call.specs.Record.{emptied, openedFor}
+use Rattle.call.specs.Events.{eventOf}
+use Rattle.events.specs.declared.Act.{Act}
+use Rattle.events.specs.declared.Act.the-variants.{Opens, Meets}
 use Rattle.trace_run.specs.declared.Ran.{Ran}
 
 abbrev pub keysOf : List Call → List ℕ

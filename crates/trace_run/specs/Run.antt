@@ -5,9 +5,10 @@ use mathlib.Core.Bool.{Bool, true, false, cond}
 use mathlib.Core.List.{List, [], _∷_, _++_}
 use lib.ListN.{length, take, drop}
 use Rattle.lines.specs.Lines.{ascii}
-use Rattle.source.specs.declared.Call.{Call}
-use Rattle.source.specs.declared.Outcome.{Outcome}
-use Rattle.source_table.specs.declared.Act.{Act}
+use Rattle.call.specs.Events.{sourceHalf}
+use Rattle.call.specs.declared.Call.{Call}
+use Rattle.call.specs.declared.Outcome.{Outcome}
+use Rattle.events.specs.declared.Act.{Act}
 use Rattle.source_table.specs.Claims.{callOf}
 use Rattle.source_table.specs.Table.{ranOf, tableOf}
 use Rattle.event_record.specs.declared.Decoded.{Decoded}
@@ -30,7 +31,7 @@ begin ys n = record { table = ys; text = []; count = n; good = true }
 
 -- what a line shows: the answer and the signals of the event, and the call of its key after it (decision 25)
 unfoldable pub shownOf : List Call → ℕ → Act → Outcome
-shownOf ys key act = record { answer = ranOf ys key act .done .answer; call = callOf key (tableOf ys key act); signals = ranOf ys key act .done .signals }
+shownOf ys key act = record { answer = ranOf sourceHalf ys key act .done .answer; call = callOf key (tableOf sourceHalf ys key act); signals = ranOf sourceHalf ys key act .done .signals }
 
 -- `bad` on a line of its own; nothing is done, and nothing is counted
 abbrev pub badText : List ℕ
@@ -41,7 +42,7 @@ unfoldable pub onRequest : Columns → Past → ℕ → Request → Past
 onRequest w p key Bad = record { table = p .table; text = p .text ++ badText; count = p .count; good = false }
 onRequest w p key (Asks act) =
     record {
-      table = tableOf (p .table) key act;
+      table = tableOf sourceHalf (p .table) key act;
       text = p .text ++ lineText w (p .count + 1) (shownOf (p .table) key act);
       count = p .count + 1;
       good = true;

@@ -9,12 +9,12 @@ ghost use Rattle.lines.specs.Lines.{page, putText};
 ghost use Rattle.source_table.specs.Fit.{fitTable};
 ghost use Rattle.trace_run.specs.Run.{recordAt, chunkOf};
 ghost use Rattle.trace_run.specs.Placed.{keysOf, indexOf, placeOf, refusedWith, workedOn, unplacedFor, stoppedAt};
+use call::Call;
+use call::Outcome;
 use event_record::Request;
+use events::Act;
 use signal::Answer;
 use signal::Signal;
-use source::Call;
-use source::Outcome;
-use source_table::Act;
 use trace_line::Columns;
 
 // How far a run has come: the table, the place behind the lines, the count of records, and whether none of them was bad.

@@ -1,3 +1,4 @@
+-- `source_connects::connect_row` meets its contract. Assumes nothing.
 use borrow.Author.Needs.{needs}
 use Rattle.source_connects.proofs.connect_row.Statement.{statement}
 use Rattle.source_connects.proofs.connect_row.Tie as tie

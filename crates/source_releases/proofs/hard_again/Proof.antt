@@ -4,7 +4,10 @@ use Rattle.source_releases.proofs.hard_again.Statement.{statement}
 use Rattle.source_releases.proofs.hard_again.Tie as tie
 
 returns : tie.Need-returns
-returns c = simp (c .decided .ensures, c .before .enum-told .given .1)
+returns c = simp (c .done .ensures, c .before .enum-told .given .1)
+
+returns-2 : tie.Need-returns-2
+returns-2 c = simp (c .hard-ended .ensures, c .before .enum-told2 .given .1)
 
 pub hard-again-spec : {M : Type 1} → statement M
 hard-again-spec =
@@ -15,4 +18,4 @@ hard-again-spec =
     (λ c. search needs)
     (λ c κs. search needs)
     returns
-    (λ c. search needs))
+    returns-2)

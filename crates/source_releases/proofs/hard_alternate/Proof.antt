@@ -4,7 +4,10 @@ use Rattle.source_releases.proofs.hard_alternate.Statement.{statement}
 use Rattle.source_releases.proofs.hard_alternate.Tie as tie
 
 returns : tie.Need-returns
-returns c = simp (c .decided .ensures, c .before .naming .ensures, c .before .before .before .next .given .1)
+returns c = simp (c .given .ensures, c .before .naming .ensures, c .before .before .before .next .given .1)
+
+returns-2 : tie.Need-returns-2
+returns-2 c = simp (c .hard-ended .ensures, c .before .enum-told .given .1)
 
 pub hard-alternate-spec : {M : Type 1} → statement M
 hard-alternate-spec =
@@ -16,4 +19,4 @@ hard-alternate-spec =
     (λ c. search needs)
     (λ c κs. search needs)
     returns
-    (λ c. search needs))
+    returns-2)

@@ -1,7 +1,7 @@
 -- `source_table::emptied` meets its contract. Assumes nothing.
 use borrow.Author.Needs.{needs}
 use borrow.Author.Tests.{eq-eqb, ne-eqb}
-use Rattle.source_table.proofs.Told.{same, other}
+use Rattle.rows.proofs.Same.{same, other}
 use Rattle.source_table.proofs.emptied.Statement.{statement}
 use Rattle.source_table.proofs.emptied.Tie as tie
 

@@ -7,6 +7,7 @@ use Rattle.lent.proofs.Event as walked
 use lib.Dec.{lit<}
 use Rattle.lent.proofs.Record.{flag}
 use Rattle.distinct.specs.Distinct.{uniqueOf}
+use Rattle.call.specs.Events.{sourceHalf}
 use Rattle.source_table.specs.Fit.{fitKeys}
 use Rattle.source_table.specs.Table.{seenOf, decideOf}
 use Rattle.source_table.proofs.Keys.{keys-fit}
@@ -25,7 +26,7 @@ use Rattle.source_table.proofs.handle.Statement as stated
 use Rattle.source_table.proofs.handle.Code as code
 
 -- the code has the walk's shape: a mismatch is told here, in a line
-code-is : code.function ≡ walked.code row key seen flag act done ran ran-at ran-call ran-done 1024 (record { fits = lit< tt }) (lit< tt, lit< tt) seenOf uniqueOf decideOf fitKeys keys-fit (record { survey = survey.name; unique = unique.name; decide = decide.name; put = put.name })
+code-is : code.function ≡ walked.code row key seen flag act done ran ran-at ran-call ran-done 1024 (record { fits = lit< tt }) (lit< tt, lit< tt) seenOf uniqueOf (decideOf sourceHalf) fitKeys keys-fit (record { survey = survey.name; unique = unique.name; decide = decide.name; put = put.name })
 code-is = refl
 
 pub handle-spec : {M : Type 1} → stated.statement M
@@ -33,7 +34,7 @@ unfolding code.routine tablesOf
 handle-spec 𝓤 H 𝓜 𝓖 𝓡 =
     entered 𝓤 H (tripleOf 𝓤 H (𝓖 .A) handle′.signature (handle′.spec 𝓤 H (𝓖 .A) (𝓜 .mem) (𝓡 .run)))
     (tables 𝓤 H 𝓜 𝓡 code.env .C) (tables 𝓤 H 𝓜 𝓡 code.env .Λ) #source_table·handle code.function (code.unfolded 𝓤 H 𝓜 𝓡)
-    (walked.meets row key seen flag act done ran ran-at ran-call ran-done 1024 (record { fits = lit< tt }) (lit< tt, lit< tt) seenOf uniqueOf decideOf fitKeys keys-fit
+    (walked.meets row key seen flag act done ran ran-at ran-call ran-done 1024 (record { fits = lit< tt }) (lit< tt, lit< tt) seenOf uniqueOf (decideOf sourceHalf) fitKeys keys-fit
     (record { survey = survey.name; unique = unique.name; decide = decide.name; put = put.name }) 𝓤 H (𝓖 .A) (givenOf 𝓤 H 𝓜 𝓖) (tablesOf 𝓤 H 𝓜 (tables 𝓤 H 𝓜 𝓡 code.env))
     (cited 𝓤 H _ 𝓜 𝓡 code.env survey.name survey.routine code.calls-source-table·survey (survey-thm.met 𝓤 H 𝓜 𝓖 𝓡))
     (cited 𝓤 H _ 𝓜 𝓡 code.env unique.name unique.routine code.calls-distinct·unique (unique-thm.met 𝓤 H 𝓜 𝓖 𝓡))

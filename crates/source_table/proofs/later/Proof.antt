@@ -4,7 +4,7 @@ use mathlib.Core.Path.{_≡_, refl, sym, ap, _∙_}
 use mathlib.Core.Bool.{Bool, true, false, _&&_, cond}
 use lib.Dec.{eqb}
 use borrow.Author.Needs.{needs}
-use Rattle.source.specs.declared.Call.{Call}
+use Rattle.call.specs.declared.Call.{Call}
 use Rattle.source_table.specs.declared.Found.{Found}
 use Rattle.source_table.specs.declared.Found.the-variants.{At, Nothing}
 use Rattle.source_table.specs.Table.{isMissing, laterOf}

@@ -6,7 +6,7 @@ use denote.Triple.Table.{entered, cited}
 use Rattle.lent.proofs.Fold as walked
 use mir.Syntax.{w32}
 use Rattle.lent.proofs.Record.{uint}
-use Rattle.source.specs.Record.{emptied}
+use Rattle.call.specs.Record.{emptied}
 use Rattle.source_table.specs.Table.{soughtAtStart, soughtOf}
 use Rattle.source_table.proofs.Shape.{row, sought}
 use Rattle.source_table.proofs.seek_start.Symbol as seek-start

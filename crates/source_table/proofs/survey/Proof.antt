@@ -6,7 +6,7 @@ use denote.Triple.Table.{entered, cited}
 use Rattle.lent.proofs.Survey as walked
 use mir.Syntax.{w32}
 use Rattle.lent.proofs.Record.{uint}
-use Rattle.source.specs.Record.{emptied}
+use Rattle.call.specs.Record.{emptied}
 use Rattle.source_table.specs.Table.{startOf, stepOf}
 use Rattle.source_table.proofs.Shape.{row, key, seen}
 use Rattle.source_table.proofs.start.Symbol as start

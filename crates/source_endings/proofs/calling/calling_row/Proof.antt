@@ -1,5 +1,6 @@
 -- `source_endings::calling::calling_row` meets its contract. Assumes nothing.
 use borrow.Author.Needs.{needs}
+use Rattle.source_rows.proofs.Carried.{passed-is}
 use Rattle.source_endings.proofs.calling.calling_row.Statement.{statement}
 use Rattle.source_endings.proofs.calling.calling_row.Tie as tie
 
@@ -7,25 +8,25 @@ returns : tie.Need-returns
 returns c = simp (c .refused .ensures, c .before .enum-told .given .1)
 
 returns-2 : tie.Need-returns-2
-returns-2 c = simp (c .incumbent-ended .ensures, c .before .passed .ensures, c .before .before .before .state .given .1)
+returns-2 c = simp (c .incumbent-ended .ensures, c .before .passed .ensures, c .before .before .before .state .given .1, passed-is)
 
 returns-3 : tie.Need-returns-3
-returns-3 c = simp (c .decided .ensures, c .before .enum-told2 .given .1)
+returns-3 c = simp (c .done .ensures, c .before .enum-told2 .given .1)
 
 returns-4 : tie.Need-returns-4
-returns-4 c = simp (c .decided2 .ensures, c .before .release .ensures, c .before .before .passed2 .ensures, c .before .before .before .before .state2 .given .1)
+returns-4 c = simp (c .done2 .ensures, c .before .release .ensures, c .before .before .passed2 .ensures, c .before .before .before .before .state2 .given .1, passed-is)
 
 returns-5 : tie.Need-returns-5
 returns-5 c = simp (c .incumbent-ended2 .ensures, c .before .soft-triggered-cause .ensures, c .before .before .before .state3 .given .1)
 
 returns-6 : tie.Need-returns-6
-returns-6 c = simp (c .both-ended .ensures, c .before .before .state4 .given .1)
+returns-6 c = simp (c .both-ended-with .ensures, c .before .passed3 .ensures, c .before .before .before .state4 .given .1, passed-is)
 
 returns-7 : tie.Need-returns-7
-returns-7 c = simp (c .both-ended2 .ensures, c .before .before .state5 .given .1)
+returns-7 c = simp (c .both-ended-with2 .ensures, c .before .passed4 .ensures, c .before .before .before .state5 .given .1, passed-is)
 
 returns-8 : tie.Need-returns-8
-returns-8 c = simp (c .both-ended3 .ensures, c .before .before .state6 .given .1)
+returns-8 c = simp (c .both-ended-with3 .ensures, c .before .passed5 .ensures, c .before .before .before .state6 .given .1, passed-is)
 
 pub calling-row-spec : {M : Type 1} → statement M
 calling-row-spec =
@@ -47,9 +48,12 @@ calling-row-spec =
     (λ c κs. search needs)
     (λ c. search needs)
     (λ c κs. search needs)
-    (λ c. search needs)
     (λ c κs. search needs)
     (λ c. search needs)
+    (λ c κs. search needs)
+    (λ c κs. search needs)
+    (λ c. search needs)
+    (λ c κs. search needs)
     (λ c κs. search needs)
     returns
     returns-2

@@ -4,7 +4,7 @@ use Rattle.source_endings.proofs.calling.incumbent_ended.Statement.{sta
 use Rattle.source_endings.proofs.calling.incumbent_ended.Tie as tie
 
 returns : tie.Need-returns
-returns c = simp (c .decided .ensures, c .before .release .ensures)
+returns c = simp (c .done .ensures, c .before .release .ensures)
 
 pub incumbent-ended-spec : {M : Type 1} → statement M
 incumbent-ended-spec =

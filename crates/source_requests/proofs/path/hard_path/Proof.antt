@@ -4,7 +4,7 @@ use Rattle.source_requests.proofs.path.hard_path.Statement.{statement}
 use Rattle.source_requests.proofs.path.hard_path.Tie as tie
 
 returns : tie.Need-returns
-returns c = simp (c .decided .ensures, c .before .naming .ensures, c .before .before .before .next .given .1)
+returns c = simp (c .given .ensures, c .before .naming .ensures, c .before .before .before .next .given .1)
 
 returns-2 : tie.Need-returns-2
 returns-2 c = simp (c .refused .ensures, c .before .enum-told .given .1)

@@ -9,6 +9,9 @@ returns c = simp (c .refused .ensures, c .before .enum-told .given .1)
 returns-2 : tie.Need-returns-2
 returns-2 c = simp (c .refused2 .ensures, c .before .enum-told2 .given .1)
 
+returns-3 : tie.Need-returns-3
+returns-3 c = simp (c .hard-path .ensures, c .before .enum-told3 .given .1)
+
 returns-4 : tie.Need-returns-4
 returns-4 c = simp (c .refused3 .ensures, c .before .enum-told4 .given .1)
 
@@ -46,7 +49,7 @@ path-row-spec =
     (λ c κs. search needs)
     returns
     returns-2
-    (λ c. search needs)
+    returns-3
     returns-4
     returns-5
     returns-6

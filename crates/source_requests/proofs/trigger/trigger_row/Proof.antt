@@ -1,10 +1,17 @@
 -- `source_requests::trigger::trigger_row` meets its contract. Assumes nothing.
 use borrow.Author.Needs.{needs}
+use Rattle.source_rows.proofs.Carried.{refused-at}
 use Rattle.source_requests.proofs.trigger.trigger_row.Statement.{statement}
 use Rattle.source_requests.proofs.trigger.trigger_row.Tie as tie
 
 returns : tie.Need-returns
-returns c = simp (c .refused .ensures, c .before .enum-told .given .1)
+returns c = simp (c .refused .ensures, c .before .enum-told .given .1, refused-at)
+
+returns-2 : tie.Need-returns-2
+returns-2 c = simp (c .trigger-in .ensures, c .before .enum-told2 .given .1)
+
+returns-3 : tie.Need-returns-3
+returns-3 c = simp (c .trigger-in2 .ensures, c .before .enum-told3 .given .1)
 
 pub trigger-row-spec : {M : Type 1} → statement M
 trigger-row-spec =
@@ -17,5 +24,5 @@ trigger-row-spec =
     (λ c. search needs)
     (λ c κs. search needs)
     returns
-    (λ c. search needs)
-    (λ c. search needs))
+    returns-2
+    returns-3)

@@ -22,7 +22,7 @@ returns-6 : tie.Need-returns-6
 returns-6 c = simp (c .refused6 .ensures, c .before .enum-told6 .given .1)
 
 returns-7 : tie.Need-returns-7
-returns-7 c = simp (c .decided .ensures, c .before .naming .ensures, c .before .before .before .state .given .1)
+returns-7 c = simp (c .done .ensures, c .before .naming .ensures, c .before .before .before .state .given .1)
 
 returns-8 : tie.Need-returns-8
 returns-8 c = simp (c .refused7 .ensures, c .before .enum-told7 .given .1)

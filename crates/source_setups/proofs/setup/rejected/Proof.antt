@@ -4,7 +4,7 @@ use Rattle.source_setups.proofs.setup.rejected.Statement.{statement}
 use Rattle.source_setups.proofs.setup.rejected.Tie as tie
 
 returns : tie.Need-returns
-returns c = simp (c .decided .ensures, c .before .rejection .ensures)
+returns c = simp (c .done .ensures, c .before .rejection .ensures)
 
 pub rejected-spec : {M : Type 1} → statement M
 rejected-spec =

@@ -1,13 +1,14 @@
 -- `source_setups::setup::setup_row` meets its contract. Assumes nothing.
 use borrow.Author.Needs.{needs}
+use Rattle.source_rows.proofs.Carried.{refused-at}
 use Rattle.source_setups.proofs.setup.setup_row.Statement.{statement}
 use Rattle.source_setups.proofs.setup.setup_row.Tie as tie
 
 returns : tie.Need-returns
-returns c = simp (c .refused .ensures, c .before .enum-told .given .1)
+returns c = simp (c .refused .ensures, c .before .enum-told .given .1, refused-at)
 
 returns-2 : tie.Need-returns-2
-returns-2 c = simp (c .refused2 .ensures, c .before .enum-told2 .given .1)
+returns-2 c = simp (c .refused2 .ensures, c .before .enum-told2 .given .1, refused-at)
 
 returns-3 : tie.Need-returns-3
 returns-3 c = simp (c .setup-met .ensures, c .before .enum-told3 .given .1)

@@ -1,0 +1,17 @@
+-- `call::Call::called_release` meets its contract. Assumes nothing.
+use borrow.Author.Needs.{needs}
+use Rattle.call.proofs.Events.{called-is}
+use Rattle.call.proofs.Call.called_release.Statement.{statement}
+use Rattle.call.proofs.Call.called_release.Tie as tie
+
+returns : tie.Need-returns
+returns c = rw (c .carried .ensures, c .before .called-row .ensures, c .before .before .after .ensures, called-is)
+
+pub called-release-spec : {M : Type 1} → statement M
+called-release-spec =
+    tie.close
+    (tie.spec
+    (λ c κs. search needs)
+    (λ c κs. search needs)
+    (λ c κs. search needs)
+    returns)

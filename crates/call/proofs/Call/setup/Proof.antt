@@ -1,0 +1,17 @@
+-- `call::Call::setup` meets its contract. Assumes nothing.
+use borrow.Author.Needs.{needs}
+use Rattle.call.proofs.Events.{setup-is}
+use Rattle.call.proofs.Call.setup.Statement.{statement}
+use Rattle.call.proofs.Call.setup.Tie as tie
+
+returns : tie.Need-returns
+returns c = rw (c .carried .ensures, c .before .setup-row .ensures, c .before .before .after .ensures, setup-is)
+
+pub setup-spec : {M : Type 1} → statement M
+setup-spec =
+    tie.close
+    (tie.spec
+    (λ c κs. search needs)
+    (λ c κs. search needs)
+    (λ c κs. search needs)
+    returns)

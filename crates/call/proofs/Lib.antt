@@ -1,0 +1,4 @@
+pub mod Claims
+pub mod Source
+pub mod Events
+pub mod Wrong

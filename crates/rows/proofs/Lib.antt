@@ -1,0 +1,11 @@
+pub mod Every
+pub mod Same
+pub mod Sent
+pub mod Balance
+pub mod Signals
+pub mod Lift
+pub mod Wanted
+pub mod Unique
+pub mod Unneeded
+pub mod Claims
+pub mod Wrong

@@ -1,0 +1,10 @@
+pub mod States
+pub mod Cases
+pub mod Rules
+pub mod Effects
+pub mod Every
+pub mod Laws
+pub mod Checks
+pub mod Meaning
+pub mod Papers
+pub mod Claims

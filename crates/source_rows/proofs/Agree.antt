@@ -1,0 +1,119 @@
+-- What the documents ask of the source by case, and of a call and an event, is one thing (specs/Demands). Assumes nothing.
+use Prim.Native.Nat.{ℕ}
+use native.Mathlib.Omega.{arith}
+use mathlib.Core.Bool.{Bool, _&&_, _||_, cond, false, not, true}
+use mathlib.Core.List.{[], _∷_}
+use mathlib.Core.Path.{_∙_, _≡_, ap, refl}
+use lib.Dec.{eqb}
+use borrow.Author.Tests.{eqb-true}
+use Rattle.signal.specs.Causes.{inProgress, oldNumber, unsupported}
+use Rattle.signal.specs.Numbers.{hasSoft, hasSymmetric, isClearing, isLate}
+use Rattle.signal.specs.declared.ReceivedCause.{ReceivedCause}
+use Rattle.signal.specs.declared.ReceivedCause.the-variants.{NoCause, WithCause}
+use Rattle.signal.specs.declared.Soft.{Soft}
+use Rattle.signal.specs.declared.Switchover.{Switchover}
+use Rattle.events.specs.declared.Event.{Event}
+use Rattle.events.specs.declared.Event.the-variants.{Connect, Expiry, FromDomain, FromParty, NoPath, PathFound, Ready, Setup, Trigger}
+use Rattle.rows.proofs.Wanted.{is-first, its-incumbent, names-unheld}
+use Rattle.rows.specs.Cases.{AsksClearing, AsksImmediate, AsksOther, askedOf, asksClearing, cameNone, classOf, happeningOf, isIncumbent}
+use Rattle.rows.specs.Cases.{isRerouting}
+use Rattle.rows.specs.Effects.{causesOf}
+use Rattle.rows.specs.Meaning.{Agrees}
+use Rattle.rows.specs.Rules.{Says5, Says6, Says8}
+use Rattle.rows.specs.States.{isHard, isHardPhase, phaseNumber, phaseOf, stateNumber}
+use Rattle.rows.specs.declared.Class.the-variants.{CameComplete, CameOther, CameOutside}
+use Rattle.rows.specs.declared.State.{State}
+use Rattle.rows.specs.declared.State.the-variants.{Awaiting, HardUnderway, HardWaiting, Idle, Null, SoftInitiated, SoftProceeding}
+use Rattle.rows.specs.declared.State.the-variants.{SoftTriggered}
+use Rattle.source_rows.specs.Demands.{isBusy, isMissing, meaningless, meaninglessIn, rejectedFor, setupRejection, sourceDemands}
+use Rattle.source_rows.specs.Demands.{sourceWants, turnsAway, turnsAwayIn}
+
+number-is : (s : State) → phaseNumber (phaseOf s) ≡ stateNumber s
+number-is Null = refl
+number-is (Idle i) = refl
+number-is HardWaiting = refl
+number-is (HardUnderway r) = refl
+number-is (SoftTriggered i) = refl
+number-is (SoftProceeding i r) = refl
+number-is (SoftInitiated i r) = refl
+number-is (Awaiting i r) = refl
+
+hard-is : (s : State) → isHardPhase (phaseOf s) ≡ isHard s
+hard-is Null = refl
+hard-is (Idle i) = refl
+hard-is HardWaiting = refl
+hard-is (HardUnderway r) = refl
+hard-is (SoftTriggered i) = refl
+hard-is (SoftProceeding i r) = refl
+hard-is (SoftInitiated i r) = refl
+hard-is (Awaiting i r) = refl
+
+meaningless-is : (soft : Soft) (s : State) (remote : ℕ) (e : Event) → meaninglessIn (phaseOf s) soft (happeningOf s remote e) ≡ meaningless soft s e
+meaningless-is soft s remote Trigger = ap (λ n. eqb n 0 || not (hasSoft soft)) (number-is s)
+meaningless-is soft s remote PathFound = ap (λ (n : ℕ). not (eqb n 2 || eqb n 4)) (number-is s)
+meaningless-is soft s remote NoPath = ap (λ (n : ℕ). not (eqb n 2 || eqb n 4)) (number-is s)
+meaningless-is soft s remote (Connect c agreed) = ap (λ (n : ℕ). not (eqb n 3 || eqb n 5)) (number-is s)
+meaningless-is soft s remote (Setup code number) = ap (λ n. eqb n 0 || not (hasSymmetric soft)) (number-is s)
+meaningless-is soft s remote (FromParty cause) = ap (λ (n : ℕ). eqb n 0) (number-is s)
+meaningless-is soft s remote (FromDomain c cause crankback) = ap (λ (n : ℕ). eqb n 0) (number-is s)
+meaningless-is soft s remote Ready = ap (λ (n : ℕ). not (eqb n 6)) (number-is s)
+meaningless-is soft s remote Expiry = ap not (hard-is s)
+
+clearing-is : (code : Switchover) → asksClearing (askedOf code) ≡ isClearing code
+clearing-is code = by (eqb (code .code) 0) (eqb (code .code) 1) refl refl
+  where
+    by : (a b : Bool) → eqb (code .code) 0 ≡ a → eqb (code .code) 1 ≡ b → asksClearing (cond a AsksImmediate (cond b AsksClearing AsksOther)) ≡ b
+    by true true p q =
+        let z : code .code ≡ 0 = eqb-true (code .code) 0 p in
+        let u : code .code ≡ 1 = eqb-true (code .code) 1 q in
+        absurd (omega arith)
+    by true false p q = refl
+    by false true p q = refl
+    by false false p q = refl
+
+rejected-is : (remote : ℕ) (s : State) (code : Switchover) (number : ℕ) → causesOf (rejectedFor (phaseOf s) (askedOf code) (isLate number remote)) ≡ setupRejection remote s code number
+rejected-is remote s code number =
+    (λ i.
+    causesOf
+    (cond (not (clearing-is code i)) (Says8 ∷ [])
+    (cond (isLate number remote) (Says5 ∷ []) (cond ((eqb (number-is s i) 2 || eqb (number-is s i) 4) || (eqb (number-is s i) 3 || eqb (number-is s i) 5)) (Says6 ∷ []) []))))
+    ∙ by (isClearing code) (isLate number remote) (isBusy s)
+  where
+    by : (a b c : Bool) → causesOf (cond (not a) (Says8 ∷ []) (cond b (Says5 ∷ []) (cond c (Says6 ∷ []) []))) ≡ cond (not a) (unsupported ∷ []) (cond b (oldNumber ∷ []) (cond c (inProgress ∷ []) []))
+    by true true c = refl
+    by true false true = refl
+    by true false false = refl
+    by false b c = refl
+
+missing-is : (cause : ReceivedCause) → cameNone (classOf cause) ≡ isMissing cause
+missing-is NoCause = refl
+missing-is (WithCause k) = by (eqb (k .number) 1) (eqb (k .number) 4)
+  where
+    by : (a b : Bool) → cameNone (cond a CameOutside (cond b CameComplete CameOther)) ≡ false
+    by true b = refl
+    by false true = refl
+    by false false = refl
+
+turned-is : (hard : Bool) (s : State) (remote : ℕ) (e : Event) → turnsAwayIn (phaseOf s) hard (happeningOf s remote e) ≡ turnsAway hard s e
+turned-is hard s remote Trigger = refl
+turned-is hard s remote PathFound = refl
+turned-is hard s remote NoPath = refl
+turned-is hard s remote (Connect c agreed) = λ i. eqb (number-is s i) 5 && (not (names-unheld s remote (Connect c agreed) i) && not agreed)
+turned-is hard s remote (Setup code number) = refl
+turned-is hard s remote (FromParty cause) = refl
+turned-is hard s remote (FromDomain c cause crankback) =
+    λ i.
+    eqb (number-is s i) 6
+    && ((is-first (isIncumbent s c) (isRerouting s c) ∙ its-incumbent s c) i && (hard && missing-is cause i))
+turned-is hard s remote Ready = refl
+turned-is hard s remote Expiry = refl
+
+pub agrees : Agrees sourceWants sourceDemands
+agrees =
+    record {
+      meaningless = λ x e. meaningless-is (x .soft) (x .state) (x .remote) e;
+      rejected = λ x code number. rejected-is (x .remote) (x .state) code number;
+      retired21 = λ x e. refl;
+      dropped21 = λ x e. turned-is (x .hard) (x .state) (x .remote) e;
+      most = refl;
+    }

@@ -1,0 +1,4 @@
+pub mod Rows
+pub mod Demands
+pub mod Elsewhere
+pub mod Claims

@@ -1,5 +1,0 @@
-pub mod States
-pub mod Rows
-pub mod Checks
-pub mod Lawful
-pub mod Witness
