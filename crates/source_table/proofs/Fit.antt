@@ -84,6 +84,52 @@ two-is last i r = (
       (both-and (isWithin last i) (isWithin last r) (within-is last i .1 (t .1 .0)) (within-is last r .1 (t .1 .1))),
 )
 
+-- a test that follows from another adds nothing to it
+implied : (a b : Bool) → (b ≡ true → a ≡ true) → b ≡ (a && b)
+implied true b h = refl
+implied false true h = absurd (false≢true (h refl))
+implied false false h = refl
+
+-- where a held number is within, the last number is not 0
+within-given : (last x : ℕ) → isWithin last x ≡ (not (eqb last 0) && isWithin last x)
+within-given last x = implied (not (eqb last 0)) (isWithin last x) (λ p.
+    let w : Within last x = within-is last x .0 p in
+    not-held (eqb last 0) (ne-eqb last 0 (λ z. omega arith)))
+
+two-given : (last i r : ℕ) → areWithin last i r ≡ (not (eqb last 0) && areWithin last i r)
+two-given last i r = implied (not (eqb last 0)) (areWithin last i r) (λ p.
+    let w : Within last i = two-is last i r .0 p .1 .0 in
+    not-held (eqb last 0) (ne-eqb last 0 (λ z. omega arith)))
+
+-- what the code tests of a state in use: the last number only where nothing is held
+abbrev pub tested : ℕ → State → Bool
+tested last Null = false
+tested last (Idle i) = isWithin last i
+tested last HardWaiting = not (eqb last 0)
+tested last (HardUnderway r) = isWithin last r
+tested last (SoftTriggered i) = isWithin last i
+tested last (SoftProceeding i r) = areWithin last i r
+tested last (SoftInitiated i r) = areWithin last i r
+tested last (Awaiting i r) = areWithin last i r
+
+and-false : (a : Bool) → false ≡ (a && false)
+and-false true = refl
+and-false false = refl
+
+and-true : (a : Bool) → a ≡ (a && true)
+and-true true = refl
+and-true false = refl
+
+pub tested-is : (last : ℕ) (s : State) → tested last s ≡ (not (eqb last 0) && fitHeld last s)
+tested-is last Null = and-false (not (eqb last 0))
+tested-is last (Idle i) = within-given last i
+tested-is last HardWaiting = and-true (not (eqb last 0))
+tested-is last (HardUnderway r) = within-given last r
+tested-is last (SoftTriggered i) = within-given last i
+tested-is last (SoftProceeding i r) = two-given last i r
+tested-is last (SoftInitiated i r) = two-given last i r
+tested-is last (Awaiting i r) = two-given last i r
+
 pub by-equal : {X : Type 0} (x y : ℕ) → (x ≡ y → X) → ((x ≡ y → ⊥) → X) → X
 by-equal {X} x y f g = by-test (eqb x y) refl
   where

@@ -6,7 +6,7 @@ ghost use mathlib.Core.Path.{_≡_};
 ghost use lib.Dec.{eqb};
 ghost use Rattle.call.specs.Events.{sourceHalf};
 ghost use lib.ListN.{set};
-ghost use mathlib.Core.Bool.{_&&_};
+ghost use mathlib.Core.Bool.{not, _&&_};
 ghost use Rattle.rows.specs.declared.State.the-variants.{SoftProceeding};
 ghost use Rattle.source_table.specs.Fit.{isEmptied, isWithin, fitHeld, fitRecord};
 ghost use Rattle.source_table.specs.Table.{isMissing, laterOf, soughtAtStart, soughtOf, soughtIn, startOf, stepOf, seenOf, keysOf, refusedAt, placedAt, openingOf, meetingOf, decideFitOf, decideOf, ranOf, tableOf, ranFitOf, tableFitOf};
@@ -99,13 +99,14 @@ fn both_within(last: u16, incumbent: u16, rerouting: u16) -> bool
     false
 }
 
+// A number that is within is at least 1, and so is the last number then: only where nothing is held is it asked for.
 fn held_fit(last: u16, state: State) -> bool
-    ensures { λ r. ⌜ r ≡ fitHeld last state ⌝ }
+    ensures { λ r. ⌜ r ≡ (not (eqb last 0) && fitHeld last state) ⌝ }
 {
     match state {
         State::Null => false,
         State::Idle(i) => within(last, i),
-        State::HardWaiting => true,
+        State::HardWaiting => last != 0,
         State::HardUnderway(r) => within(last, r),
         State::SoftTriggered(i) => within(last, i),
         State::SoftProceeding(i, r) => both_within(last, i, r),
@@ -119,9 +120,6 @@ fn record_fit(call: Call) -> bool
 {
     if call.key == 0 {
         return emptied(call);
-    }
-    if call.last == 0 {
-        return false;
     }
     let state = call.state;
     held_fit(call.last, state)

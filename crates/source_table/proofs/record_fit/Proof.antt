@@ -8,10 +8,7 @@ returns : tie.Need-returns
 returns c = simp (c .emptied .ensures, eq-eqb _ _ (c .before .if1 .taken))
 
 returns-2 : tie.Need-returns-2
-returns-2 c = simp (ne-eqb _ _ (c .before .before .if1 .left), eq-eqb _ _ (c .if2 .taken))
-
-returns-3 : tie.Need-returns-3
-returns-3 c = simp (c .held-fit .ensures, ne-eqb _ _ (c .before .before .before .if1 .left), ne-eqb _ _ (c .before .if2 .left))
+returns-2 c = simp (c .held-fit .ensures, ne-eqb _ _ (c .before .if1 .left))
 
 pub record-fit-spec : {M : Type 1} → statement M
 record-fit-spec =
@@ -19,6 +16,5 @@ record-fit-spec =
     (tie.spec
     (λ c κs. search needs)
     returns
-    returns-2
     (λ c κs. search needs)
-    returns-3)
+    returns-2)
