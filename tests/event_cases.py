@@ -3,9 +3,11 @@ import os
 import random
 import struct
 
-from counting import fail
+from counting import NEAR, fail
 
 RECORD = 20
+MULTIPLIER, CHAIN = 2654435761, 8  # of crates/distinct: what spreads the keys, and how far a chain is followed
+STEPS, SETS = 4096, 1000
 OPENING, TRIGGER, RELEASE = 0, 1, 6
 IDLE, AWAITING = (1, 1, 0, 1), (7, 1, 2, 2)  # the state's number, incumbent, rerouting, last number
 
@@ -19,11 +21,38 @@ def at_random(count):
     return random.Random(1).sample(range(1, 1 << 32), count)
 
 
+def slot(key):
+    """As in crates/distinct."""
+    return key * MULTIPLIER // 4194304 % 1024
+
+
 def in_one_slot(count):
-    """Their products with the multiplier of crates/distinct are 1, 2, 3 .. modulo 2^32, all in slot 0."""
-    keys = [pow(2654435761, -1, 1 << 32) * product % (1 << 32) for product in range(1, count + 1)]
-    assert all(key * 2654435761 // 4194304 % 1024 == 0 for key in keys)
+    """Their products with the multiplier are 1, 2, 3 .. modulo 2^32, all in slot 0."""
+    keys = [pow(MULTIPLIER, -1, 1 << 32) * product % (1 << 32) for product in range(1, count + 1)]
+    assert all(slot(key) == 0 for key in keys)
     return keys
+
+
+def comparisons(keys):
+    """How many pairs of these keys crates/distinct compares, and whether some slot has more than a chain's steps."""
+    held, compared = [0] * 1024, 0
+    for place, key in enumerate(keys):
+        at = slot(key)
+        compared += held[at] if held[at] < CHAIN else CHAIN + place
+        held[at] += 1
+    return compared, max(held) > CHAIN
+
+
+def crowded():
+    """Rows on which keys are bad: those of which some slot holds more than a chain's steps."""
+    steps = {step: comparisons([step * turn for turn in range(1, 1025)]) for step in range(1, STEPS + 1)}
+    bad = {step: compared for step, (compared, full) in steps.items() if full}
+    draw = random.Random(1)
+    sets = sum(comparisons(draw.sample(range(1, 1 << 32), 1024))[1] for _ in range(SETS))
+    yield [f"of the steps 1 to {STEPS:,}, those that put more than {CHAIN} of 1,024 keys into one slot", len(bad)]
+    yield ["the smallest of them", min(bad)]
+    yield ["the one with the most comparisons", max(bad, key=bad.get)]
+    yield [f"of {SETS:,} random sets of 1,024 keys, those with more than {CHAIN} in one slot", sets]
 
 
 def meets(place, kind):
@@ -83,3 +112,10 @@ def cost(machine, program, symbol, run, count, *wanted):
     if len(calls) != 1:
         fail(f"{symbol} was seen {len(calls)} times, not once: is it still a function of its own?")
     return calls[0]
+
+
+def stack(machine, program, symbol):
+    """The most octets of stack that a call takes, over all runs at 64 records; the emulator alone tells it."""
+    place = cost(machine, program, symbol, RUNS[0], 64)[3]
+    near = ("-d", "exec,cpu,nochain", "-dfilter", f"{place - NEAR:#x}..{place + NEAR:#x}")
+    return max(cost(machine, program, symbol, run, 64, near)[2] for run in RUNS)

@@ -4,6 +4,7 @@ Elsewhere than on x86-64 the kit's linker and C library are used, as for the pro
 """
 import glob
 import os
+import re
 import subprocess
 
 from counting import NATIVE, ROOT, fail, toolchain
@@ -30,8 +31,9 @@ def problem():
 
 
 def version():
-    told = subprocess.run([COMPILER, "-vV"], capture_output=True, text=True, check=True).stdout.splitlines()
-    return ", ".join(line for line in told if line.startswith(("rustc ", "LLVM ")))
+    """The compiler and its LLVM."""
+    told = subprocess.run([COMPILER, "-vV"], capture_output=True, text=True, check=True).stdout
+    return ", ".join(f"{name} {number}" for name, number in re.findall(r"^(rustc|LLVM)(?: version:)? (\S+)", told, re.M))
 
 
 def linked_by_the_kit(folder):
