@@ -11,19 +11,22 @@ use borrow.Author.Tests.{eqb-false, eqb-true}
 use Rattle.signal.specs.Numbers.{answerNumber}
 use Rattle.signal.specs.Signals.{places}
 use Rattle.signal.specs.declared.Answer.{Answer}
-use Rattle.signal.specs.declared.Answer.the-variants.{KeyNotOnRecord, KeyOnRecord, KeyZero, NoEmptyRecord, TableUnfit}
-use Rattle.signal.specs.declared.Wanted.{Wanted}
+use Rattle.signal.specs.declared.Answer.the-variants.{KeyZero, TableUnfit}
 use Rattle.events.specs.declared.Act.{Act}
 use Rattle.events.specs.declared.Act.the-variants.{Meets, Opens}
 use Rattle.events.specs.declared.Event.{Event}
+use Rattle.admission.specs.Admission.{actAdmitted}
+use Rattle.admission.specs.declared.Admission.the-variants.{Refuses}
 use Rattle.call.specs.Claims.{Lawful}
 use Rattle.call.specs.Events.{Half, handledAt}
 use Rattle.call.specs.Record.{emptied}
 use Rattle.call.specs.declared.Call.{Call}
-use Rattle.source_table.proofs.Search.{FoundAt, call-of, callIn, first, found-at, isAt, on-record, sought-is, stands-on-record}
-use Rattle.source_table.proofs.Stored.{either, event-changes-its-call, opening-takes-its-record, ran-is}
+use Rattle.source_table.proofs.Decided.{Placed, decided, ran-is}
+use Rattle.source_table.proofs.Search.{FoundAt, call-of, first, found-at, on-record, sought-is, stands-on-record}
+use Rattle.source_table.proofs.Stored.{event-changes-its-call, opening-takes-its-record}
+use Rattle.source_table.specs.Claims.{callOf, onRecord}
 use Rattle.source_table.specs.Fit.{fitTable}
-use Rattle.source_table.specs.Table.{actOf, meetingAt, openingAt, openingBy, ranFitOf, ranOf, refusedAt, tableOf}
+use Rattle.source_table.specs.Table.{callIn, carriedOut, decideFitOf, isNothing, placedAt, ranFitOf, ranOf, refusedAt, tableOf}
 use Rattle.source_table.specs.declared.Found.{Found}
 use Rattle.source_table.specs.declared.Found.the-variants.{At, Nothing}
 use Rattle.source_table.specs.declared.Ran.{Ran}
@@ -42,18 +45,9 @@ pub past-the-end : (ys : List Call) (a : Answer) → Untouched ys (refusedAt (le
 past-the-end ys a = (set-out ys (length ys) emptied (omega arith), refl)
 
 module _ (half : Half) (L : Lawful half) where
-  -- an opening is never refused by its record
-  opening-quiet : (ys : List Call) (free : Found) (key : ℕ) (wanted : Wanted) → Quiet ys (openingAt (length ys) free key wanted)
-  opening-quiet ys (At i c) key wanted h = absurd (h refl)
-  opening-quiet ys Nothing key wanted h = past-the-end ys NoEmptyRecord
-
-  opening-by : (ys : List Call) (found free : Found) (key : ℕ) (wanted : Wanted) → Quiet ys (openingBy (length ys) found free key wanted)
-  opening-by ys (At i c) free key wanted h = past-the-end ys KeyOnRecord
-  opening-by ys Nothing free key wanted h = opening-quiet ys free key wanted h
-
   -- an event that a record refuses leaves that record, which stands where it was found
-  meeting-quiet : (ys : List Call) (key : ℕ) (found : Found) → first key 0 ys ≡ found → (e : Event) → Quiet ys (meetingAt half (length ys) found e)
-  meeting-quiet ys key (At i c) p e h =
+  meeting-quiet : (ys : List Call) (key i : ℕ) (c : Call) → first key 0 ys ≡ At i c → (e : Event) → Quiet ys (placedAt i (handledAt half c e))
+  meeting-quiet ys key i c p e h =
       let f : FoundAt key 0 i c ys = found-at key 0 i c ys p in
       let kept = any.refusals-change-nothing half L c e (handledAt half c e) refl h in
       let at : i ≡ f .place = omega (arith, f .at) in (
@@ -61,20 +55,14 @@ module _ (half : Half) (L : Lawful half) where
             ∙ (ap (λ (n : ℕ). set ys n c) at ∙ (ap (set ys (f .place)) (sym (f .there)) ∙ set-getD ys (f .place) emptied)),
         kept .1,
       )
-  meeting-quiet ys key Nothing p e h = past-the-end ys KeyNotOnRecord
 
-  act-quiet : (ys : List Call) (key : ℕ) (act : Act) → Quiet ys (actOf half (length ys) (record { found = first key 0 ys; free = first 0 0 ys }) key act)
-  act-quiet ys key (Opens wanted) = opening-by ys (first key 0 ys) (first 0 0 ys) key wanted
-  act-quiet ys key (Meets e) = meeting-quiet ys key (first key 0 ys) refl e
-
-  fit-quiet : (ys : List Call) (key : ℕ) (act : Act) → Quiet ys (ranFitOf half ys key act)
-  fit-quiet ys key act =
-      rw (sought-is ys key)
-      (either (Quiet ys) (eqb key 0) _ _ (λ h. past-the-end ys KeyZero) (act-quiet ys key act))
+  -- and an opening is never refused by its record
+  placed-quiet : (ys : List Call) (key : ℕ) (act : Act) → Placed half ys key (Quiet ys) act
+  placed-quiet ys key (Opens wanted) = λ i c z p q h. absurd (h refl)
+  placed-quiet ys key (Meets e) = λ i c z p. meeting-quiet ys key i c p e
 
   pub refusals-change-nothing : claim.RefusalsChangeNothing half
-  refusals-change-nothing ys key act =
-      rw (ran-is half ys key act) (either (Quiet ys) (fitTable ys) _ _ (fit-quiet ys key act) (λ h. past-the-end ys TableUnfit))
+  refusals-change-nothing ys key act = decided half ys key (Quiet ys) (λ a no h. past-the-end ys a) act (placed-quiet ys key act)
 
   pub unfit-is-refused : claim.UnfitIsRefused half
   unfit-is-refused ys key act unfit = rw (ran-is half ys key act, unfit)
@@ -85,31 +73,42 @@ module _ (half : Half) (L : Lawful half) where
   pub fit-needs-no-check : claim.FitNeedsNoCheck half
   fit-needs-no-check ys key act fit = (same-ran ys key act fit, ap (λ d. set ys (d .at) (d .call)) (same-ran ys key act fit))
 
-  -- the answer of each kind of act, by what is found
-  opening-answer : (n : ℕ) (found free : Found) (key : ℕ) (wanted : Wanted) → answerNumber (openingBy n found free key wanted .done .answer) ≡ cond (isAt found) 103 (cond (not (isAt free)) 104 0)
-  opening-answer n (At i c) free key wanted = refl
-  opening-answer n Nothing (At i c) key wanted = refl
-  opening-answer n Nothing Nothing key wanted = refl
+  -- the answer that is wanted, by what is on record
+  abbrev answerBy : Call → Bool → Bool → Act → ℕ
+  answerBy c known free (Opens wanted) = cond known 103 (cond (not free) 104 0)
+  answerBy c known free (Meets e) = cond (not known) 105 (answerNumber (handledAt half c e .answer))
 
-  meeting-answer : (n : ℕ) (found : Found) (e : Event) → answerNumber (meetingAt half n found e .done .answer) ≡ cond (not (isAt found)) 105 (answerNumber (handledAt half (callIn found) e .answer))
-  meeting-answer n (At i c) e = refl
-  meeting-answer n Nothing e = refl
+  wanted-is : (ys : List Call) (key : ℕ) (act : Act) → answerBy (callOf key ys) (onRecord key ys) (onRecord 0 ys) act ≡ claim.answerFor half ys key act
+  wanted-is ys key (Opens wanted) = refl
+  wanted-is ys key (Meets e) = refl
 
-  act-answer : (ys : List Call) (key : ℕ) (act : Act) → answerNumber (actOf half (length ys) (record { found = first key 0 ys; free = first 0 0 ys }) key act .done .answer) ≡ claim.answerFor half ys key act
-  act-answer ys key (Opens wanted) =
-      rw (opening-answer (length ys) (first key 0 ys) (first 0 0 ys) key wanted, on-record key 0 ys, on-record 0 0 ys)
-  act-answer ys key (Meets e) = rw (meeting-answer (length ys) (first key 0 ys) e, on-record key 0 ys, call-of key 0 ys)
-
-  cond-answer : (b : Bool) (a d : Ran) (m n : ℕ) → answerNumber (a .done .answer) ≡ m → answerNumber (d .done .answer) ≡ n → answerNumber (cond b a d .done .answer) ≡ cond b m n
-  cond-answer true a d m n p q = p
-  cond-answer false a d m n p q = q
+  -- and the answer that is given
+  answer-by-found : (n key : ℕ) (act : Act) (found free : Found) →
+      answerNumber (decideFitOf half n (record { found = found; free = free }) key act .done .answer)
+      ≡ cond (eqb key 0) 102 (answerBy (callIn found) (not (isNothing found)) (not (isNothing free)) act)
+  answer-by-found n key act found free = by-key (eqb key 0) act found free
+    where
+      by-key : (b : Bool) (act : Act) (found free : Found) →
+          answerNumber (carriedOut half n (record { found = found; free = free }) key
+          (cond b (Refuses KeyZero) (actAdmitted act (isNothing found) (isNothing free))) .done .answer)
+          ≡ cond b 102 (answerBy (callIn found) (not (isNothing found)) (not (isNothing free)) act)
+      by-key true act found free = refl
+      by-key false (Opens wanted) (At i c) free = refl
+      by-key false (Opens wanted) Nothing (At i c) = refl
+      by-key false (Opens wanted) Nothing Nothing = refl
+      by-key false (Meets e) (At i c) free = refl
+      by-key false (Meets e) Nothing free = refl
 
   pub answers-in-order : claim.AnswersInOrder half
-  answers-in-order ys key act =
-      rw (ran-is half ys key act, sought-is ys key)
-      (cond-answer (fitTable ys) _ _ _ 101
-      (cond-answer (eqb key 0) (refusedAt (length ys) KeyZero) _ 102 _ refl (act-answer ys key act))
-      refl)
+  answers-in-order ys key act = rw (ran-is half ys key act, sought-is ys key) (by-fit (fitTable ys))
+    where
+      by-fit : (b : Bool) →
+          answerNumber (cond b (decideFitOf half (length ys) (record { found = first key 0 ys; free = first 0 0 ys }) key act) (refusedAt (length ys) TableUnfit) .done .answer)
+          ≡ cond b (cond (eqb key 0) 102 (claim.answerFor half ys key act)) 101
+      by-fit true =
+          answer-by-found (length ys) key act (first key 0 ys) (first 0 0 ys)
+          ∙ rw (on-record key 0 ys, on-record 0 0 ys, call-of key 0 ys, wanted-is ys key act)
+      by-fit false = refl
 
   pub found-anywhere : claim.FoundAnywhere
   found-anywhere ys i l = stands-on-record (getD ys i emptied .key) i ys l refl

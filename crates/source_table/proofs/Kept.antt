@@ -1,16 +1,15 @@
 -- A fit table stays fit (specs/Claims). Assumes nothing.
 use Prim.Native.Nat.{_<_, ℕ}
 use native.Mathlib.Omega.{arith}
-use mathlib.Core.Bool.{Bool, cond, false, true, true≢false}
+use mathlib.Core.Bool.{Bool, false, not, true, true≢false}
 use mathlib.Core.List.{List}
 use mathlib.Core.Logic.{_⊎_, inl, inr, ⊎-elim}
 use mathlib.Core.Path.{_∙_, _≡_, ap, refl, sym}
-use lib.Dec.{eqb, ltb}
+use lib.Dec.{ltb}
 use lib.ListN.{getD, length, length-set, set}
 use lib.Seq.{getD-set-other, getD-set-same}
-use borrow.Author.Tests.{eqb-false, ltb-false, ltb-true}
+use borrow.Author.Tests.{ltb-false, ltb-true}
 use Rattle.signal.specs.declared.Answer.{Answer}
-use Rattle.signal.specs.declared.Answer.the-variants.{KeyNotOnRecord, KeyOnRecord, KeyZero, NoEmptyRecord, TableUnfit}
 use Rattle.signal.specs.declared.Wanted.{Wanted}
 use Rattle.events.specs.declared.Act.{Act}
 use Rattle.events.specs.declared.Act.the-variants.{Meets, Opens}
@@ -22,11 +21,10 @@ use Rattle.call.specs.Record.{emptied, openedFor}
 use Rattle.call.specs.declared.Call.{Call}
 use Rattle.source_table.proofs.Claims.{past-the-end}
 use Rattle.source_table.proofs.Fit.{Well, by-equal, one-well}
-use Rattle.source_table.proofs.Search.{FoundAt, first, found-at, isAt, on-record, sought-is, stands-on-record}
-use Rattle.source_table.proofs.Stored.{either, ran-is}
+use Rattle.source_table.proofs.Decided.{Placed, decided}
+use Rattle.source_table.proofs.Search.{FoundAt, first, found-at, on-record, stands-on-record}
 use Rattle.source_table.specs.Claims.{FitRecord, FitTable, InUse}
-use Rattle.source_table.specs.Fit.{fitTable}
-use Rattle.source_table.specs.Table.{actOf, meetingAt, openingAt, openingBy, refusedAt}
+use Rattle.source_table.specs.Table.{isNothing, placedAt, refusedAt}
 use Rattle.source_table.specs.declared.Found.{Found}
 use Rattle.source_table.specs.declared.Found.the-variants.{At, Nothing}
 use Rattle.source_table.specs.declared.Ran.{Ran}
@@ -120,20 +118,19 @@ module _ (half : Half) (L : Lawful half) where
   refusal-keeps : (ys : List Call) → FitTable ys → (a : Answer) → Keeps ys (refusedAt (length ys) a)
   refusal-keeps ys f a = rw (past-the-end ys a .0) f
 
-  opening-keeps : (ys : List Call) → FitTable ys → (key : ℕ) → (key ≡ 0 → ⊥) → first key 0 ys ≡ Nothing → (wanted : Wanted) (free : Found) → first 0 0 ys ≡ free → Keeps ys (openingAt (length ys) free key wanted)
-  opening-keeps ys f key n none wanted (At i c) p =
+  -- a new call at an empty record, where no record has its key
+  opening-keeps : (ys : List Call) → FitTable ys → (key : ℕ) → (key ≡ 0 → ⊥) → first key 0 ys ≡ Nothing → (wanted : Wanted) (i : ℕ) (c : Call) →
+      first 0 0 ys ≡ At i c → Keeps ys (placedAt i (openedFor key wanted))
+  opening-keeps ys f key n none wanted i c p =
       let a : FoundAt 0 0 i c ys = found-at 0 0 i c ys p in
       let li : i < length ys = omega (arith, a .at, a .inside) in
       put-fit ys f i (openedFor key wanted .call) li (opened-fit key wanted n)
-      (λ j o l e. absurd (true≢false (sym (stands-on-record key j ys l e) ∙ (sym (on-record key 0 ys) ∙ ap isAt none))))
-  opening-keeps ys f key n none wanted Nothing p = refusal-keeps ys f NoEmptyRecord
+      (λ j o l e. absurd (true≢false (sym (stands-on-record key j ys l e) ∙ (sym (on-record key 0 ys) ∙ ap (λ (x : Found). not (isNothing x)) none))))
 
-  opening-by : (ys : List Call) → FitTable ys → (key : ℕ) → (key ≡ 0 → ⊥) → (wanted : Wanted) (found : Found) → first key 0 ys ≡ found → Keeps ys (openingBy (length ys) found (first 0 0 ys) key wanted)
-  opening-by ys f key n wanted (At i c) p = refusal-keeps ys f KeyOnRecord
-  opening-by ys f key n wanted Nothing p = opening-keeps ys f key n p wanted (first 0 0 ys) refl
-
-  meeting-keeps : (ys : List Call) → FitTable ys → (key : ℕ) → (key ≡ 0 → ⊥) → (found : Found) → first key 0 ys ≡ found → (e : Event) → Keeps ys (meetingAt half (length ys) found e)
-  meeting-keeps ys f key n (At i c) p e =
+  -- what an event makes of the record of its key
+  meeting-keeps : (ys : List Call) → FitTable ys → (key : ℕ) → (key ≡ 0 → ⊥) → (i : ℕ) (c : Call) → first key 0 ys ≡ At i c → (e : Event) →
+      Keeps ys (placedAt i (handledAt half c e))
+  meeting-keeps ys f key n i c p e =
       let a : FoundAt key 0 i c ys = found-at key 0 i c ys p in
       let li : i < length ys = omega (arith, a .at, a .inside) in
       let ip : i ≡ a .place = omega (arith, a .at) in
@@ -148,17 +145,10 @@ module _ (half : Half) (L : Lawful half) where
       let k : getD ys j emptied .key ≡ getD ys i emptied .key = q ∙ (same ∙ ap (λ (x : Call). x .key) (sym here)) in
       absurd (cn (ap (λ (x : Call). x .key) (sym here) ∙ apart ys f i j li l o k)))
       (r .1))
-  meeting-keeps ys f key n Nothing p e = refusal-keeps ys f KeyNotOnRecord
 
-  act-keeps : (ys : List Call) → FitTable ys → (key : ℕ) → (key ≡ 0 → ⊥) → (act : Act) → Keeps ys (actOf half (length ys) (record { found = first key 0 ys; free = first 0 0 ys }) key act)
-  act-keeps ys f key n (Opens wanted) = opening-by ys f key n wanted (first key 0 ys) refl
-  act-keeps ys f key n (Meets e) = meeting-keeps ys f key n (first key 0 ys) refl e
-
-  by-key : (ys : List Call) → FitTable ys → (key : ℕ) (act : Act) (b : Bool) → eqb key 0 ≡ b → Keeps ys (cond b (refusedAt (length ys) KeyZero) (actOf half (length ys) (record { found = first key 0 ys; free = first 0 0 ys }) key act))
-  by-key ys f key act true t = refusal-keeps ys f KeyZero
-  by-key ys f key act false t = act-keeps ys f key (eqb-false key 0 t) act
+  placed-keeps : (ys : List Call) → FitTable ys → (key : ℕ) (act : Act) → Placed half ys key (Keeps ys) act
+  placed-keeps ys f key (Opens wanted) = λ i c z p q. opening-keeps ys f key z p wanted i c q
+  placed-keeps ys f key (Meets e) = λ i c z p. meeting-keeps ys f key z i c p e
 
   pub stays-fit : claim.StaysFit half
-  stays-fit ys key act f =
-      rw (ran-is half ys key act, sought-is ys key)
-      (either (Keeps ys) (fitTable ys) _ _ (by-key ys f key act (eqb key 0) refl) (refusal-keeps ys f TableUnfit))
+  stays-fit ys key act f = decided half ys key (Keeps ys) (λ a no. refusal-keeps ys f a) act (placed-keeps ys f key act)

@@ -2,7 +2,7 @@
 use Prim.Native.Nat.{_+_, _<_, suc, zero, ℕ}
 use native.Mathlib.Nat.{le-of-suc-le-suc, not-suc-le-zero}
 use native.Mathlib.Omega.{arith}
-use mathlib.Core.Bool.{Bool, _&&_, _||_, and-assoc, and-true, cond, false, true}
+use mathlib.Core.Bool.{Bool, _&&_, _||_, and-assoc, and-true, cond, false, not, true}
 use mathlib.Core.List.{List, [], _∷_}
 use mathlib.Core.Path.{_∙_, _≡_, ap, refl, sym}
 use lib.Dec.{eqb}
@@ -13,7 +13,7 @@ use Rattle.call.specs.Record.{emptied}
 use Rattle.call.specs.declared.Call.{Call}
 use Rattle.source_table.specs.Claims.{callOf, onRecord}
 use Rattle.source_table.specs.Fit.{everyFit, fitRecord}
-use Rattle.source_table.specs.Table.{laterOf, seenOf, soughtAtStart, soughtIn, soughtOf, startOf, stepOf}
+use Rattle.source_table.specs.Table.{callIn, isNothing, laterOf, seenOf, soughtAtStart, soughtIn, soughtOf, startOf, stepOf}
 use Rattle.source_table.specs.declared.Found.{Found}
 use Rattle.source_table.specs.declared.Found.the-variants.{At, Nothing}
 use Rattle.source_table.specs.declared.Seen.{Seen}
@@ -92,21 +92,13 @@ found-at k i j c (d ∷ ds) p = by-test (found-at k (i + 1) j c ds) (eqb (d .key
         let r : FoundAt k (i + 1) j c ds = onward q in
         record { place = suc (r .place); at = omega (arith, r .at); inside = omega (arith, r .inside); there = r .there; named = r .named; before = before-it d ds k (r .place) (eqb-false (d .key) k t) (r .before) }
 
--- whether something is found, and what
-abbrev pub isAt : Found → Bool
-isAt (At i c) = true
-isAt Nothing = false
-
-abbrev pub callIn : Found → Call
-callIn (At i c) = c
-callIn Nothing = emptied
-
-pub on-record : (k i : ℕ) (ys : List Call) → isAt (first k i ys) ≡ onRecord k ys
+pub on-record : (k i : ℕ) (ys : List Call) → not (isNothing (first k i ys)) ≡ onRecord k ys
 unfolding firstFrom
 on-record k i [] = refl
 on-record k i (c ∷ cs) = by-test (on-record k (i + 1) cs) (eqb (c .key) k)
   where
-    by-test : isAt (first k (i + 1) cs) ≡ onRecord k cs → (b : Bool) → isAt (cond b (At i c) (first k (i + 1) cs)) ≡ (b || onRecord k cs)
+    by-test : not (isNothing (first k (i + 1) cs)) ≡ onRecord k cs → (b : Bool) →
+        not (isNothing (cond b (At i c) (first k (i + 1) cs))) ≡ (b || onRecord k cs)
     by-test h true = refl
     by-test h false = h
 

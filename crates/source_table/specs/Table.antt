@@ -8,11 +8,11 @@ use lib.ListN.{length, set}
 use Rattle.lent.specs.Search.{keysFrom, readFrom}
 use Rattle.signal.specs.Signals.{places}
 use Rattle.signal.specs.declared.Answer.{Answer}
-use Rattle.signal.specs.declared.Answer.the-variants.{KeyNotOnRecord, KeyOnRecord, KeyZero, NoEmptyRecord, TableUnfit}
-use Rattle.signal.specs.declared.Wanted.{Wanted}
+use Rattle.signal.specs.declared.Answer.the-variants.{TableUnfit}
 use Rattle.events.specs.declared.Act.{Act}
-use Rattle.events.specs.declared.Act.the-variants.{Meets, Opens}
-use Rattle.events.specs.declared.Event.{Event}
+use Rattle.admission.specs.Admission.{admissionOf}
+use Rattle.admission.specs.declared.Admission.{Admission}
+use Rattle.admission.specs.declared.Admission.the-variants.{Reaches, Refuses, Takes}
 use Rattle.call.specs.Events.{Half, handledAt}
 use Rattle.call.specs.Record.{emptied, openedFor}
 use Rattle.call.specs.declared.Call.{Call}
@@ -24,9 +24,18 @@ use Rattle.source_table.specs.declared.Ran.{Ran}
 use Rattle.source_table.specs.declared.Seen.{Seen}
 use Rattle.source_table.specs.declared.Sought.{Sought}
 
-abbrev pub isMissing : Found → Bool
-isMissing (At j d) = false
-isMissing Nothing = true
+-- whether nothing was found; where it stands, or past the end of a row of n records; and the record, or an empty one
+abbrev pub isNothing : Found → Bool
+isNothing (At j d) = false
+isNothing Nothing = true
+
+abbrev pub placeIn : ℕ → Found → ℕ
+placeIn n (At j d) = j
+placeIn n Nothing = n
+
+abbrev pub callIn : Found → Call
+callIn (At j d) = d
+callIn Nothing = emptied
 
 -- what is found stays; else the record at i is, where it has the key
 abbrev pub laterOf : Found → ℕ → ℕ → Call → Found
@@ -66,35 +75,16 @@ refusedAt n a = record { done = record { answer = a; signals = places [] }; at =
 abbrev pub placedAt : ℕ → Outcome → Ran
 placedAt i o = record { done = record { answer = o .answer; signals = o .signals }; at = i; call = o .call }
 
--- an opening takes the lowest empty record (104 where there is none)
-abbrev pub openingAt : ℕ → Found → ℕ → Wanted → Ran
-openingAt n (At i c) key wanted = placedAt i (openedFor key wanted)
-openingAt n Nothing key wanted = refusedAt n NoEmptyRecord
-
--- 103 where the key is on record, before 104 (decision 14)
-abbrev pub openingBy : ℕ → Found → Found → ℕ → Wanted → Ran
-openingBy n (At i c) free key wanted = refusedAt n KeyOnRecord
-openingBy n Nothing free key wanted = openingAt n free key wanted
-
-abbrev pub openingOf : ℕ → Sought → ℕ → Wanted → Ran
-openingOf n s key wanted = openingBy n (s .found) (s .free) key wanted
-
 module _ (half : Half) where
-  -- an event meets the record with its key (105 where there is none), and follows that record's row
-  abbrev pub meetingAt : ℕ → Found → Event → Ran
-  meetingAt n (At i c) e = placedAt i (handledAt half c e)
-  meetingAt n Nothing e = refusedAt n KeyNotOnRecord
+  -- an admission, carried out: an opening takes the lowest empty record, and an event follows the row of the record with its key
+  abbrev pub carriedOut : ℕ → Sought → ℕ → Admission → Ran
+  carriedOut n s key (Refuses a) = refusedAt n a
+  carriedOut n s key (Takes wanted) = placedAt (placeIn n (s .free)) (openedFor key wanted)
+  carriedOut n s key (Reaches e) = placedAt (placeIn n (s .found)) (handledAt half (callIn (s .found)) e)
 
-  abbrev pub meetingOf : ℕ → Sought → Event → Ran
-  meetingOf n s e = meetingAt n (s .found) e
-
-  abbrev pub actOf : ℕ → Sought → ℕ → Act → Ran
-  actOf n s key (Opens wanted) = openingOf n s key wanted
-  actOf n s key (Meets e) = meetingOf n s e
-
-  -- 102, key 0, before the key is looked for
+  -- 102 to 105 come before anything of a record
   abbrev pub decideFitOf : ℕ → Sought → ℕ → Act → Ran
-  decideFitOf n s key act = cond (eqb key 0) (refusedAt n KeyZero) (actOf n s key act)
+  decideFitOf n s key act = carriedOut n s key (admissionOf key act (isNothing (s .found)) (isNothing (s .free)))
 
   -- 101 first of all
   abbrev pub decideOf : ℕ → Seen → Bool → ℕ → Act → Ran

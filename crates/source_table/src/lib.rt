@@ -9,15 +9,14 @@ ghost use lib.ListN.{set};
 ghost use mathlib.Core.Bool.{not, _&&_};
 ghost use Rattle.rows.specs.declared.State.the-variants.{SoftProceeding};
 ghost use Rattle.source_table.specs.Fit.{isEmptied, isWithin, fitHeld, fitRecord};
-ghost use Rattle.source_table.specs.Table.{isMissing, laterOf, soughtAtStart, soughtOf, soughtIn, startOf, stepOf, seenOf, keysOf, refusedAt, placedAt, openingOf, meetingOf, decideFitOf, decideOf, ranOf, tableOf, ranFitOf, tableFitOf};
+ghost use Rattle.source_table.specs.Table.{isNothing, placeIn, callIn, laterOf, soughtAtStart, soughtOf, soughtIn, startOf, stepOf, seenOf, keysOf, refusedAt, placedAt, decideFitOf, decideOf, ranOf, tableOf, ranFitOf, tableFitOf};
+use admission::Admission;
 use call::Call;
 use call::Outcome;
 use events::Act;
-use events::Event;
 use rows::State;
 use signal::Answer;
 use signal::Signal;
-use signal::Wanted;
 
 // A record and its place.
 pub enum Found {
@@ -125,8 +124,8 @@ fn record_fit(call: Call) -> bool
     held_fit(call.last, state)
 }
 
-fn missing(found: Found) -> bool
-    ensures { λ r. ⌜ r ≡ isMissing found ⌝ }
+fn nothing(found: Found) -> bool
+    ensures { λ r. ⌜ r ≡ isNothing found ⌝ }
 {
     match found {
         Found::At(_, _) => false,
@@ -134,12 +133,31 @@ fn missing(found: Found) -> bool
     }
 }
 
+// The place of what was found, in a row of n records; else past the end.
+fn place_in(n: usize, found: Found) -> usize
+    ensures { λ r. ⌜ r ≡ placeIn n found ⌝ }
+{
+    match found {
+        Found::At(i, _) => i,
+        Found::Nothing => n,
+    }
+}
+
+fn call_in(found: Found) -> Call
+    ensures { λ r. ⌜ r ≡ callIn found ⌝ }
+{
+    match found {
+        Found::At(_, call) => call,
+        Found::Nothing => Call::EMPTY,
+    }
+}
+
 // The key is compared first: few records have it.
 fn takes(found: Found, key: u32, c: Call) -> bool
-    ensures { λ r. ⌜ r ≡ (eqb (c .key) key && isMissing found) ⌝ }
+    ensures { λ r. ⌜ r ≡ (eqb (c .key) key && isNothing found) ⌝ }
 {
     if c.key == key {
-        return missing(found);
+        return nothing(found);
     }
     false
 }
@@ -266,44 +284,20 @@ fn placed(i: usize, o: Outcome) -> Ran
     Ran { done, at: i, call }
 }
 
-// 103, then 104; else the lowest empty record is taken.
-fn opening(n: usize, s: Sought, key: u32, wanted: Wanted) -> Ran
-    ensures { λ r. ⌜ r ≡ openingOf n s key wanted ⌝ }
-{
-    let found = s.found;
-    let free = s.free;
-    match found {
-        Found::At(_, _) => refused(n, Answer::KeyOnRecord),
-        Found::Nothing => {
-            match free {
-                Found::At(i, _) => placed(i, Call::opened(key, wanted)),
-                Found::Nothing => refused(n, Answer::NoEmptyRecord),
-            }
-        }
-    }
-}
-
-// 105; else the record's own row.
-fn meeting(n: usize, s: Sought, event: Event) -> Ran
-    ensures { λ r. ⌜ r ≡ meetingOf sourceHalf n s event ⌝ }
-{
-    let found = s.found;
-    match found {
-        Found::At(i, c) => placed(i, c.handle(event)),
-        Found::Nothing => refused(n, Answer::KeyNotOnRecord),
-    }
-}
-
-// 102 comes before the key is looked for.
+// 102 to 105 are decided by admission; else a new call takes the lowest empty record, or the record of the key follows its row.
 fn decide_fit(n: usize, s: Sought, key: u32, act: Act) -> Ran
     ensures { λ r. ⌜ r ≡ decideFitOf sourceHalf n s key act ⌝ }
 {
-    if key == 0 {
-        return refused(n, Answer::KeyZero);
-    }
-    match act {
-        Act::Opens(wanted) => opening(n, s, key, wanted),
-        Act::Meets(event) => meeting(n, s, event),
+    let found = s.found;
+    let free = s.free;
+    let admission = admission::admit(key, act, nothing(found), nothing(free));
+    match admission {
+        Admission::Refuses(answer) => refused(n, answer),
+        Admission::Takes(wanted) => placed(place_in(n, free), Call::opened(key, wanted)),
+        Admission::Reaches(event) => {
+            let call = call_in(found);
+            placed(place_in(n, found), call.handle(event))
+        }
     }
 }
 

@@ -1,15 +1,17 @@
--- Over a fit table of 64, the record that is found among the keys, and what comes of it, are what `ranOf` and `tableOf` say. Assumes nothing.
+-- Over a fit table of 64, where an opening or event goes by the keys, and what comes of it there, are what `ranOf` and `tableOf` say. Assumes nothing.
 use Prim.Native.Nat.{ℕ, zero, suc, _+_, _≤_, _<_, suc-le-suc}
 use native.Mathlib.Nat.{not-suc-le-zero, le-of-suc-le-suc}
 use native.Mathlib.Omega.{arith}
 use mathlib.Core.Path.{_≡_, refl, sym, ap, _∙_}
-use mathlib.Core.Bool.{Bool, true, false, cond, true≢false}
+use mathlib.Core.Bool.{Bool, true, false, cond, not, true≢false}
 use mathlib.Core.Logic.{⊎-elim}
 use mathlib.Core.List.{List, [], _∷_}
-use lib.Dec.{eqb, ltb}
-use lib.ListN.{length, getD, set, length-set}
-use lib.Seq.{getD-set-same, getD-set-other, set-getD}
-use borrow.Author.Tests.{eq-eqb, ne-eqb, eqb-false, eqb-true, lt-ltb, le-ltb, ltb-true, ltb-false}
+use lib.Dec.{eqb, leb, ltb}
+use lib.ListN.{List·getD-eq-default, getD, length, length-set, set}
+use lib.Seq.{getD-set-same, getD-set-other, set-getD, set-out}
+use borrow.Author.Tests.{eq-eqb, ne-eqb, eqb-false, eqb-true, lt-leb, lt-ltb, ltb-true, ltb-false}
+use Rattle.lent.specs.Search.{firstFrom}
+use Rattle.signal.specs.declared.Answer.{Answer}
 use Rattle.signal.specs.declared.Answer.the-variants.{KeyZero, KeyOnRecord, NoEmptyRecord, KeyNotOnRecord}
 use Rattle.signal.specs.declared.Wanted.{Wanted}
 use Rattle.events.specs.declared.Event.{Event}
@@ -23,16 +25,20 @@ use Rattle.source_table.specs.declared.Found.{Found}
 use Rattle.source_table.specs.declared.Found.the-variants.{At, Nothing}
 use Rattle.source_table.specs.declared.Ran.{Ran}
 use Rattle.source_table.specs.Fit.{fitTable}
-use Rattle.source_table.specs.Table.{openingAt, openingBy, meetingAt, actOf, refusedAt, ranOf, tableOf, ranFitOf}
+use Rattle.admission.specs.Admission.{actAdmitted, admissionOf, answerIn}
+use Rattle.admission.specs.declared.Admission.{Admission}
+use Rattle.admission.specs.declared.Admission.the-variants.{Refuses, Takes, Reaches}
+use Rattle.admission.proofs.Claims.{full-is-read-last}
+use Rattle.source_table.specs.Table.{callIn, carriedOut, isNothing, placeIn, ranFitOf, ranOf, refusedAt, tableOf}
 use Rattle.source_table.specs.Claims.{FitRecord, FitTable, callOf}
-use Rattle.source_table.proofs.Search.{first, sought-is, FoundAt, found-at, isAt, on-record, stands-on-record}
+use Rattle.source_table.proofs.Search.{first, sought-is, call-of, FoundAt, found-at, on-record, stands-on-record}
 use Rattle.source_table.proofs.Fit.{fit-exactly}
 use Rattle.source_table.proofs.Claims.{past-the-end}
 use Rattle.source_table.proofs.Source.{fit-needs-no-check}
 use Rattle.call.proofs.Source.{lawful}
 use Rattle.source_table.proofs.Kept.{after-event}
 use Rattle.trace_run.specs.Run.{shownOf}
-use Rattle.trace_run.specs.Placed.{keysOf, indexOf, placeOf, refusedWith, workedOn, unplacedFor}
+use Rattle.trace_run.specs.Placed.{keysOf, indexOf, placeFor, refusedWith, carriedOn, workedOn, unplacedFor}
 
 -- the call of a key: at the first place that has it, and empty where none has
 call-first : (k : ℕ) (ys : List Call) (i : ℕ) → i < length ys → getD ys i emptied .key ≡ k → ((m : ℕ) → m < i → getD ys m emptied .key ≡ k → ⊥) → callOf k ys ≡ getD ys i emptied
@@ -45,16 +51,25 @@ call-none : (k : ℕ) (ys : List Call) → ((m : ℕ) → m < length ys → getD
 call-none k [] h = refl
 call-none k (c ∷ cs) h = rw (ne-eqb (c .key) k (h 0 (omega arith))) (call-none k cs (λ m l. h (suc m) (suc-le-suc l)))
 
--- and its place among the keys
-index-first : (k : ℕ) (ys : List Call) (i : ℕ) → i < length ys → getD ys i emptied .key ≡ k → ((m : ℕ) → m < i → getD ys m emptied .key ≡ k → ⊥) → indexOf k (keysOf ys) ≡ i
-index-first k [] i l e b = absurd (not-suc-le-zero l)
-index-first k (c ∷ cs) zero l e b = rw (eq-eqb (c .key) k e)
-index-first k (c ∷ cs) (suc i) l e b =
-    rw (ne-eqb (c .key) k (b 0 (omega arith))) (ap suc (index-first k cs i (le-of-suc-le-suc l) e (λ m n. b (suc m) (suc-le-suc n))))
+-- the place of a key among the keys is that of the record which a search finds
+index-from : (k i : ℕ) (ys : List Call) → i + indexOf k (keysOf ys) ≡ placeIn (i + length ys) (first k i ys)
+unfolding firstFrom
+index-from k i [] = refl
+index-from k i (c ∷ cs) = by-test (index-from k (i + 1) cs) (eqb (c .key) k)
+  where
+    by-test : i + 1 + indexOf k (keysOf cs) ≡ placeIn (i + 1 + length cs) (first k (i + 1) cs) → (b : Bool) →
+        i + cond b 0 (suc (indexOf k (keysOf cs))) ≡ placeIn (i + suc (length cs)) (cond b (At i c) (first k (i + 1) cs))
+    by-test h true = omega arith
+    by-test h false =
+        let m : i + 1 + length cs ≡ i + suc (length cs) = omega arith in
+        let e : i + suc (indexOf k (keysOf cs)) ≡ i + 1 + indexOf k (keysOf cs) = omega arith in
+        e ∙ (h ∙ ap (λ (n : ℕ). placeIn n (first k (i + 1) cs)) m)
 
-index-none : (k : ℕ) (ys : List Call) → ((m : ℕ) → m < length ys → getD ys m emptied .key ≡ k → ⊥) → indexOf k (keysOf ys) ≡ length ys
-index-none k [] h = refl
-index-none k (c ∷ cs) h = rw (ne-eqb (c .key) k (h 0 (omega arith))) (ap suc (index-none k cs (λ m l. h (suc m) (suc-le-suc l))))
+index-is : (k : ℕ) (ys : List Call) → indexOf k (keysOf ys) ≡ placeIn (length ys) (first k 0 ys)
+index-is k ys =
+    let e : indexOf k (keysOf ys) ≡ 0 + indexOf k (keysOf ys) = omega arith in
+    let n : 0 + length ys ≡ length ys = omega arith in
+    e ∙ (index-from k 0 ys ∙ ap (λ (m : ℕ). placeIn m (first k 0 ys)) n)
 
 -- what a search found stands in the table, first of its key
 record Here (k : ℕ) (ys : List Call) (i : ℕ) (c : Call) : Type 0 where
@@ -75,7 +90,7 @@ here k ys i c p =
     }
 
 nowhere : (k : ℕ) (ys : List Call) → first k 0 ys ≡ Nothing → (m : ℕ) → m < length ys → getD ys m emptied .key ≡ k → ⊥
-nowhere k ys p m l e = true≢false (sym (stands-on-record k m ys l e) ∙ (sym (on-record k 0 ys) ∙ ap isAt p))
+nowhere k ys p m l e = true≢false (sym (stands-on-record k m ys l e) ∙ (sym (on-record k 0 ys) ∙ ap (λ (x : Found). not (isNothing x)) p))
 
 key-of : {a b : Call} → a ≡ b → a .key ≡ b .key
 key-of e = ap (λ (x : Call). x .key) e
@@ -84,23 +99,9 @@ key-of e = ap (λ (x : Call). x .key) e
 abbrev shownBy : List Call → ℕ → Ran → Outcome
 shownBy ys key d = record { answer = d .done .answer; call = callOf key (set ys (d .at) (d .call)); signals = d .done .signals }
 
--- a decision that puts an outcome's call at a place, and shows the outcome
-abbrev Puts : List Call → ℕ → ℕ → Outcome → Ran → Type 0
-Puts ys key j o d = (set ys (d .at) (d .call) ≡ set ys j (o .call)) × (shownBy ys key d ≡ o)
-
--- and one that leaves the table
-abbrev Leaves : List Call → ℕ → Outcome → Ran → Type 0
-Leaves ys key o d = (set ys (d .at) (d .call) ≡ ys) × (shownBy ys key d ≡ o)
-
 -- an outcome is shown with its own call where that is the call of the key
 shown-as : (o : Outcome) (c : Call) → c ≡ o .call → _≡_ {A = Outcome} (record { answer = o .answer; call = c; signals = o .signals }) o
 shown-as o c e i = record { answer = o .answer; call = e i; signals = o .signals }
-
--- a refusal shows the call as it stands
-refusal-leaves : (ys : List Call) (key : ℕ) (a : _) (c : Call) → callOf key ys ≡ c → Leaves ys key (refusedWith a c) (refusedAt (length ys) a)
-refusal-leaves ys key a c e =
-    let q = past-the-end ys a .0 in
-    (q, shown-as (refusedWith a c) _ (ap (callOf key) q ∙ e))
 
 module _ (ys : List Call) (f : FitTable ys) where
   -- a key but 0 stands at one place only
@@ -112,16 +113,6 @@ module _ (ys : List Call) (f : FitTable ys) where
       by-order false t =
           let g : i < m = omega (arith, ltb-false m i t, o) in
           z (sym ei ∙ f .keys i m g lm (ei ∙ sym em))
-
-  -- an empty record stands for no call
-  zero-is-empty : callOf 0 ys ≡ emptied
-  zero-is-empty = by-found (first 0 0 ys) refl
-    where
-      by-found : (found : Found) → first 0 0 ys ≡ found → callOf 0 ys ≡ emptied
-      by-found (At i c) p =
-          let h = here 0 ys i c p in
-          call-first 0 ys i (h .inside) (key-of (h .there) ∙ h .named) (h .before) ∙ f .each i (h .inside) .empty (key-of (h .there) ∙ h .named)
-      by-found Nothing p = call-none 0 ys (nowhere 0 ys p)
 
   module _ (key : ℕ) (z : key ≡ 0 → ⊥) where
     -- a call with its key at the place of the first, and all before it as they were
@@ -154,102 +145,130 @@ module _ (ys : List Call) (f : FitTable ys) where
         (λ q. call-put i (eventOf c e .call) (h .inside) (h .before) (q ∙ h .named))
         (r .1)
 
--- what is decided, at a place below 64 and past it
-abbrev Met : List Call → ℕ → Act → ℕ → Ran → Type 0
-Met ys key act j d = (j < 64 → Puts ys key j (workedOn (getD ys j emptied) key act) d) × (64 ≤ j → Leaves ys key (unplacedFor key act) d)
+-- where an opening or event goes, by what the searches find
+abbrev placeOn : Found → Found → Act → ℕ
+placeOn (At i c) free act = i
+placeOn Nothing free (Opens wanted) = placeIn 64 free
+placeOn Nothing free (Meets e) = 64
 
-met-in : (ys : List Call) (key : ℕ) (act : Act) (j : ℕ) (d : Ran) → j < 64 → Puts ys key j (workedOn (getD ys j emptied) key act) d → Met ys key act j d
-met-in ys key act j d l p = (λ h. p, λ h. absurd (omega arith))
+-- a search in 64 records finds a place below 64, or nothing
+abbrev Within : Found → Type 0
+Within (At i c) = i < 64
+Within Nothing = Unit {0}
 
-met-out : (ys : List Call) (key : ℕ) (act : Act) (j : ℕ) (d : Ran) → 64 ≤ j → Leaves ys key (unplacedFor key act) d → Met ys key act j d
-met-out ys key act j d l p = (λ h. absurd (omega arith), λ h. p)
+-- where a record is found for it, that is so whether the table is full or not: an opening is asked for an empty one only where its key is missing
+admitted-in : (key : ℕ) (act : Act) (found free : Found) → Within found → Within free → placeOn found free act < 64 →
+    admissionOf key act (leb 64 (placeIn 64 found)) false ≡ admissionOf key act (isNothing found) (isNothing free)
+admitted-in key act (At i c) free l m h =
+    rw (lt-leb 64 i l) (full-is-read-last .0 key act false ∙ sym (full-is-read-last .0 key act (isNothing free)))
+admitted-in key (Opens wanted) Nothing (At i c) l m h = refl
+admitted-in key (Opens wanted) Nothing Nothing l m h = absurd (omega arith)
+admitted-in key (Meets e) Nothing free l m h = absurd (omega arith)
 
-module _ (ys : List Call) (f : FitTable ys) (n : length ys ≡ 64) (key : ℕ) (z : key ≡ 0 → ⊥) where
-  -- the place, by what the search finds
-  place-found : (i : ℕ) (c : Call) (act : Act) → Here key ys i c → placeOf (keysOf ys) key act ≡ i
-  unfolding placeOf
-  place-found i c act h =
-      let e : indexOf key (keysOf ys) ≡ i = index-first key ys i (h .inside) (key-of (h .there) ∙ h .named) (h .before) in
-      let l : i < 64 = omega (arith, h .inside) in
-      rw (ne-eqb key 0 z, e, lt-ltb i 64 l)
+-- and where none is, the key is missing, and for an opening the table is full
+admitted-out : (key : ℕ) (act : Act) (found free : Found) → Within found → Within free → 64 ≤ placeOn found free act →
+    admissionOf key act true true ≡ admissionOf key act (isNothing found) (isNothing free)
+admitted-out key act (At i c) free l m h = absurd (omega arith)
+admitted-out key (Opens wanted) Nothing (At i c) l m h = absurd (omega arith)
+admitted-out key (Opens wanted) Nothing Nothing l m h = refl
+admitted-out key (Meets e) Nothing free l m h = refl
 
-  opening-found : (i : ℕ) (c : Call) (wanted : Wanted) → Here key ys i c → Met ys key (Opens wanted) (placeOf (keysOf ys) key (Opens wanted)) (refusedAt (length ys) KeyOnRecord)
-  opening-found i c wanted h =
-      let shown : callOf key ys ≡ c = call-first key ys i (h .inside) (key-of (h .there) ∙ h .named) (h .before) ∙ h .there in
-      let q = refusal-leaves ys key KeyOnRecord c shown in
-      let same : set ys i c ≡ ys = ap (set ys i) (sym (h .there)) ∙ set-getD ys i emptied in
-      rw (place-found i c (Opens wanted) h)
-      (met-in ys key (Opens wanted) i _ (omega (arith, h .inside)) (rw (h .there, eq-eqb (c .key) key (h .named)) (q .0 ∙ sym same, q .1)))
+-- there it is refused
+turned-away : (key : ℕ) (act : Act) (c : Call) → carriedOn c key (admissionOf key act true true) ≡ refusedWith (answerIn (admissionOf key act true true)) c
+turned-away key act c = by-key (eqb key 0) act
+  where
+    by-key : (b : Bool) (act : Act) → let a = cond b (Refuses KeyZero) (actAdmitted act true true) in carriedOn c key a ≡ refusedWith (answerIn a) c
+    by-key true act = refl
+    by-key false (Opens wanted) = refl
+    by-key false (Meets e) = refl
 
-  event-found : (i : ℕ) (c : Call) (e : Event) → Here key ys i c → Met ys key (Meets e) (placeOf (keysOf ys) key (Meets e)) (meetingAt sourceHalf (length ys) (At i c) e)
-  event-found i c e h =
-      rw (place-found i c (Meets e) h)
-      (met-in ys key (Meets e) i _ (omega (arith, h .inside)) (rw (h .there) (refl, shown-as (eventOf c e) _ (event-shown ys f key z i c e h))))
+-- the place, by what the searches find
+place-on : (act : Act) (found free : Found) → Within found → (ks : List ℕ) → indexOf 0 ks ≡ placeIn 64 free → placeFor ks (placeIn 64 found) act ≡ placeOn found free act
+place-on act (At i c) free l ks q = rw (lt-ltb i 64 l)
+place-on (Opens wanted) Nothing free l ks q = q
+place-on (Meets e) Nothing free l ks q = refl
 
-  -- the same where the key is not on record
-  module _ (none : (m : ℕ) → m < length ys → getD ys m emptied .key ≡ key → ⊥) where
-    missed : (act : Act) (j : ℕ) → _≡_ {A = ℕ} (cond (eqb key 0) 64 (cond (ltb (indexOf key (keysOf ys)) 64) (indexOf key (keysOf ys)) j)) j
-    missed act j =
-        let e : indexOf key (keysOf ys) ≡ length ys = index-none key ys none in
-        let l : 64 ≤ length ys = omega arith in
-        rw (ne-eqb key 0 z, e, le-ltb (length ys) 64 l)
+-- what is decided, and what comes of an admission at a place: the same table, and the same outcome shown
+abbrev Goes : List Call → ℕ → Admission → ℕ → Ran → Type 0
+Goes ys key a j d =
+    (set ys (d .at) (d .call) ≡ set ys j (carriedOn (getD ys j emptied) key a .call))
+    × (shownBy ys key d ≡ carriedOn (getD ys j emptied) key a)
 
-    unshown : callOf key ys ≡ emptied
-    unshown = call-none key ys none
+-- a refusal leaves the table, and shows the record of the key where it goes
+refusal-goes : (ys : List Call) (key : ℕ) (a : Answer) (j : ℕ) → getD ys j emptied ≡ callOf key ys → Goes ys key (Refuses a) j (refusedAt (length ys) a)
+refusal-goes ys key a j e =
+    let q = past-the-end ys a .0 in
+    (q ∙ sym (set-getD ys j emptied), shown-as (refusedWith a (getD ys j emptied)) _ (ap (callOf key) q ∙ sym e))
 
-    opening-missed : (wanted : Wanted) (free : Found) → first 0 0 ys ≡ free → Met ys key (Opens wanted) (placeOf (keysOf ys) key (Opens wanted)) (openingAt (length ys) free key wanted)
-    unfolding placeOf
-    opening-missed wanted (At i c) p =
-        let h = here 0 ys i c p in
-        let e : indexOf 0 (keysOf ys) ≡ i = index-first 0 ys i (h .inside) (key-of (h .there) ∙ h .named) (h .before) in
-        let other : c .key ≡ key → ⊥ = λ q. z (sym q ∙ h .named) in
-        let shown : callOf key (set ys i (openedFor key wanted .call)) ≡ openedFor key wanted .call =
-        call-put ys f key z i (openedFor key wanted .call) (h .inside) (λ m l q. none m (omega (arith, h .inside)) q) refl in
-        rw (missed (Opens wanted) (indexOf 0 (keysOf ys)), e)
-        (met-in ys key (Opens wanted) i _ (omega (arith, h .inside)) (rw (h .there, ne-eqb (c .key) key other) (refl, shown-as (openedFor key wanted) _ shown)))
-    opening-missed wanted Nothing p =
-        let e : indexOf 0 (keysOf ys) ≡ length ys = index-none 0 ys (nowhere 0 ys p) in
-        rw (missed (Opens wanted) (indexOf 0 (keysOf ys)), e)
-        (met-out ys key (Opens wanted) (length ys) _ (omega arith) (rw (ne-eqb key 0 z) (refusal-leaves ys key NoEmptyRecord emptied unshown)))
+module _ (ys : List Call) (f : FitTable ys) (n : length ys ≡ 64) (key : ℕ) where
+  -- what stands where a search ends
+  found-there : (k : ℕ) (found : Found) → first k 0 ys ≡ found → getD ys (placeIn 64 found) emptied ≡ callIn found
+  found-there k (At i c) p = here k ys i c p .there
+  found-there k Nothing p = List·getD-eq-default ys emptied (omega arith)
 
-    event-missed : (e : Event) → Met ys key (Meets e) (placeOf (keysOf ys) key (Meets e)) (refusedAt (length ys) KeyNotOnRecord)
-    unfolding placeOf
-    event-missed e =
-        rw (missed (Meets e) 64)
-        (met-out ys key (Meets e) 64 _ (omega arith) (rw (ne-eqb key 0 z) (refusal-leaves ys key KeyNotOnRecord emptied unshown)))
+  call-there : (k : ℕ) (found : Found) → first k 0 ys ≡ found → getD ys (placeIn 64 found) emptied ≡ callOf k ys
+  call-there k found p = found-there k found p ∙ (sym (ap callIn p) ∙ call-of k 0 ys)
 
-  act-met : (found : Found) → first key 0 ys ≡ found → (act : Act) → Met ys key act (placeOf (keysOf ys) key act) (actOf sourceHalf (length ys) (record { found = found; free = first 0 0 ys }) key act)
-  act-met (At i c) p (Opens wanted) = opening-found i c wanted (here key ys i c p)
-  act-met (At i c) p (Meets e) = event-found i c e (here key ys i c p)
-  act-met Nothing p (Opens wanted) = opening-missed (nowhere key ys p) wanted (first 0 0 ys) refl
-  act-met Nothing p (Meets e) = event-missed (nowhere key ys p) e
+  within : (k : ℕ) (found : Found) → first k 0 ys ≡ found → Within found
+  within k (At i c) p = omega (arith, here k ys i c p .inside)
+  within k Nothing p = tt
 
-place-zero : (ks : List ℕ) (key : ℕ) (act : Act) → key ≡ 0 → placeOf ks key act ≡ 64
-unfolding placeOf
-place-zero ks key act e = rw (eq-eqb key 0 e)
+  by-found : (act : Act) (found free : Found) → first key 0 ys ≡ found → first 0 0 ys ≡ free → (key ≡ 0 → ⊥) →
+      let a = actAdmitted act (isNothing found) (isNothing free) in
+      Goes ys key a (placeOn found free act) (carriedOut sourceHalf (length ys) (record { found = found; free = free }) key a)
+  by-found (Opens wanted) (At i c) free p q z = refusal-goes ys key KeyOnRecord i (call-there key (At i c) p)
+  by-found (Opens wanted) Nothing (At i c) p q z =
+      let h = here 0 ys i c q in
+      (refl, shown-as (openedFor key wanted) _ (call-put ys f key z i _ (h .inside) (λ m l e. nowhere key ys p m (omega (arith, h .inside)) e) refl))
+  by-found (Opens wanted) Nothing Nothing p q z = refusal-goes ys key NoEmptyRecord 64 (call-there key Nothing p)
+  by-found (Meets e) (At i c) free p q z =
+      let h = here key ys i c p in
+      rw (h .there) (refl, shown-as (eventOf c e) _ (event-shown ys f key z i c e h))
+  by-found (Meets e) Nothing free p q z = refusal-goes ys key KeyNotOnRecord 64 (call-there key Nothing p)
 
-zero-met : (ys : List Call) → FitTable ys → (key : ℕ) (act : Act) → key ≡ 0 → Met ys key act (placeOf (keysOf ys) key act) (refusedAt (length ys) KeyZero)
-zero-met ys f key act e =
-    let shown : callOf key ys ≡ emptied = ap (λ (k : ℕ). callOf k ys) e ∙ zero-is-empty ys f in
-    rw (place-zero (keysOf ys) key act e)
-    (met-out ys key act 64 _ (omega arith) (rw (eq-eqb key 0 e) (refusal-leaves ys key KeyZero emptied shown)))
+  -- key 0 is found wherever a record is empty, and refused there
+  by-zero : (act : Act) (found free : Found) → first key 0 ys ≡ found → first 0 0 ys ≡ free → key ≡ 0 → placeOn found free act ≡ placeIn 64 found
+  by-zero act (At i c) free p q z = refl
+  by-zero (Meets e) Nothing free p q z = refl
+  by-zero (Opens wanted) Nothing free p q z = ap (placeIn 64) (sym q ∙ (ap (λ (k : ℕ). first k 0 ys) (sym z) ∙ p))
 
-by-key : (ys : List Call) → FitTable ys → length ys ≡ 64 → (key : ℕ) (act : Act) (b : Bool) → eqb key 0 ≡ b → Met ys key act (placeOf (keysOf ys) key act) (cond b (refusedAt (length ys) KeyZero) (actOf sourceHalf (length ys) (record { found = first key 0 ys; free = first 0 0 ys }) key act))
-by-key ys f n key act true t = zero-met ys f key act (eqb-true key 0 t)
-by-key ys f n key act false t = act-met ys f n key (eqb-false key 0 t) (first key 0 ys) refl act
+  by-key : (act : Act) (found free : Found) → first key 0 ys ≡ found → first 0 0 ys ≡ free → (b : Bool) → eqb key 0 ≡ b →
+      let a = cond b (Refuses KeyZero) (actAdmitted act (isNothing found) (isNothing free)) in
+      Goes ys key a (placeOn found free act) (carriedOut sourceHalf (length ys) (record { found = found; free = free }) key a)
+  by-key act found free p q true t =
+      refusal-goes ys key KeyZero (placeOn found free act)
+      (ap (λ (j : ℕ). getD ys j emptied) (by-zero act found free p q (eqb-true key 0 t)) ∙ call-there key found p)
+  by-key act found free p q false t = by-found act found free p q (eqb-false key 0 t)
 
-ran-met : (ys : List Call) → FitTable ys → length ys ≡ 64 → (key : ℕ) (act : Act) → Met ys key act (placeOf (keysOf ys) key act) (ranOf sourceHalf ys key act)
-ran-met ys f n key act =
-    rw (← fit-needs-no-check ys key act (fit-exactly ys .1 f) .0, sought-is ys key) (by-key ys f n key act (eqb key 0) refl)
+  went : (act : Act) → let a = admissionOf key act (isNothing (first key 0 ys)) (isNothing (first 0 0 ys)) in
+      let j = placeOn (first key 0 ys) (first 0 0 ys) act in
+      (tableOf sourceHalf ys key act ≡ set ys j (carriedOn (getD ys j emptied) key a .call)) × (shownOf ys key act ≡ carriedOn (getD ys j emptied) key a)
+  unfolding shownOf
+  went act =
+      rw (← fit-needs-no-check ys key act (fit-exactly ys .1 f) .0, sought-is ys key)
+      (by-key act (first key 0 ys) (first 0 0 ys) refl refl (eqb key 0) refl)
 
--- at a place of the table, the record there becomes what is worked on it, and that is shown
-pub placed : (ys : List Call) → FitTable ys → length ys ≡ 64 → (key : ℕ) (act : Act) (j : ℕ) → j ≡ placeOf (keysOf ys) key act → j < 64 →
-    (tableOf sourceHalf ys key act ≡ set ys j (workedOn (getD ys j emptied) key act .call)) × (shownOf ys key act ≡ workedOn (getD ys j emptied) key act)
-unfolding shownOf
-placed ys f n key act j e l = rw (← e) at (ran-met ys f n key act) .0 l
+  index-within : (k : ℕ) → indexOf k (keysOf ys) ≡ placeIn 64 (first k 0 ys)
+  index-within k = index-is k ys ∙ ap (λ (m : ℕ). placeIn m (first k 0 ys)) n
 
--- past it, the table stays
-pub unplaced : (ys : List Call) → FitTable ys → length ys ≡ 64 → (key : ℕ) (act : Act) (j : ℕ) → j ≡ placeOf (keysOf ys) key act → 64 ≤ j →
-    (tableOf sourceHalf ys key act ≡ ys) × (shownOf ys key act ≡ unplacedFor key act)
-unfolding shownOf
-unplaced ys f n key act j e l = rw (← e) at (ran-met ys f n key act) .1 l
+  module _ (act : Act) (i j : ℕ) (at : i ≡ indexOf key (keysOf ys)) (to : j ≡ placeFor (keysOf ys) i act) where
+    place-is : j ≡ placeOn (first key 0 ys) (first 0 0 ys) act
+    place-is =
+        to ∙ (ap (λ (m : ℕ). placeFor (keysOf ys) m act) (at ∙ index-within key)
+        ∙ place-on act (first key 0 ys) (first 0 0 ys) (within key _ refl) (keysOf ys) (index-within 0))
+
+    -- at a place of the table, the record there becomes what comes of it, and that is shown
+    pub placed : j < 64 →
+        (tableOf sourceHalf ys key act ≡ set ys j (workedOn (getD ys j emptied) key act (leb 64 i) .call))
+        × (shownOf ys key act ≡ workedOn (getD ys j emptied) key act (leb 64 i))
+    placed h =
+        let a = admitted-in key act (first key 0 ys) (first 0 0 ys) (within key _ refl) (within 0 _ refl) (rw place-is at h) in
+        rw (at, index-within key, a, place-is) (went act)
+
+    -- past its end, the table stays
+    pub unplaced : 64 ≤ j → (tableOf sourceHalf ys key act ≡ ys) × (shownOf ys key act ≡ unplacedFor key act)
+    unplaced h =
+        let a = admitted-out key act (first key 0 ys) (first 0 0 ys) (within key _ refl) (within 0 _ refl) (rw place-is at h) in
+        let past : length ys ≤ j = omega arith in
+        let w = rw (← a, ← place-is, List·getD-eq-default ys emptied past) at (went act) in
+        (w .0 ∙ set-out ys j _ past, w .1 ∙ turned-away key act emptied)

@@ -5,6 +5,7 @@ use native.Mathlib.Numerals.{add-one}
 use mathlib.Core.Path.{_≡_, refl, sym, _∙_, ap, subst}
 use mathlib.Core.Bool.{Bool, true, false, cond}
 use mathlib.Core.List.{List, [], _∷_, _++_}
+use lib.Dec.{leb}
 use lib.ListN.{length, set, getD, length-set}
 use Rattle.lines.specs.Lines.{Page, page, putText}
 use Rattle.lines.proofs.Laws.{put-none, and-then}
@@ -24,7 +25,7 @@ use Rattle.event_record.specs.Record.{decodedOf}
 use Rattle.trace_line.specs.declared.Columns.{Columns}
 use Rattle.trace_line.specs.Line.{lineText}
 use Rattle.trace_run.specs.Run.{Past, after, begin, onRequest, onDecoded, recordAt, shownOf, badText}
-use Rattle.trace_run.specs.Placed.{keysOf, placeOf, workedOn, unplacedFor}
+use Rattle.trace_run.specs.Placed.{keysOf, indexOf, placeFor, workedOn, unplacedFor}
 use Rattle.trace_run.proofs.Laws.{keys-set}
 use Rattle.trace_run.proofs.Placed.{placed, unplaced}
 
@@ -93,21 +94,25 @@ module _ (w : Columns) (s : List ℕ) (p : Past) (xs : List ℕ) (r : ℕ) (t : 
           fit = subst FitTable (sym et) (stays-fit t (d .key) act (here .fit));
         }
 
-    module _ (j : ℕ) (place : j ≡ placeOf ks (d .key) act) where
-      where-is : j ≡ placeOf (keysOf t) (d .key) act
-      where-is = place ∙ ap (λ (l : List ℕ). placeOf l (d .key) act) (here .keys)
+    module _ (i j : ℕ) (found : i ≡ indexOf (d .key) ks) (place : j ≡ placeFor ks i act) where
+      found-is : i ≡ indexOf (d .key) (keysOf t)
+      found-is = found ∙ ap (indexOf (d .key)) (here .keys)
 
-      pub step-in : (o′ : Outcome) → j < 64 → o′ ≡ workedOn (getD t j emptied) (d .key) act → page z b ≡ putText (page o at) (lineText w (n + 1) o′) →
+      place-is : j ≡ placeFor (keysOf t) i act
+      place-is = place ∙ ap (λ (l : List ℕ). placeFor l i act) (here .keys)
+
+      pub step-in : (o′ : Outcome) → j < 64 → o′ ≡ workedOn (getD t j emptied) (d .key) act (leb 64 i) → page z b ≡ putText (page o at) (lineText w (n + 1) o′) →
           Standing w s p xs (suc r) (set t j (o′ .call)) (set ks j (o′ .call .key)) (n + 1) b z
       step-in o′ h eo put =
-          let m = placed t (here .fit) (here .calls) (d .key) act j where-is h in
+          let m = placed t (here .fit) (here .calls) (d .key) act i j found-is place-is h in
           onward (set t j (o′ .call)) (set ks j (o′ .call .key)) (ap (λ (y : Outcome). set t j (y .call)) eo ∙ sym (m .0))
           (ap (λ (l : List ℕ). set l j (o′ .call .key)) (here .keys) ∙ sym (keys-set t j (o′ .call))) (length-set t j (o′ .call) ∙ here .calls)
           (more o′ (eo ∙ sym (m .1)) put)
 
-      pub step-out : (o′ : Outcome) → 64 ≤ j → o′ ≡ unplacedFor (d .key) act → page z b ≡ putText (page o at) (lineText w (n + 1) o′) → Standing w s p xs (suc r) t ks (n + 1) b z
+      pub step-out : (o′ : Outcome) → 64 ≤ j → o′ ≡ unplacedFor (d .key) act → page z b ≡ putText (page o at) (lineText w (n + 1) o′) →
+          Standing w s p xs (suc r) t ks (n + 1) b z
       step-out o′ h eo put =
-          let m = unplaced t (here .fit) (here .calls) (d .key) act j where-is h in
+          let m = unplaced t (here .fit) (here .calls) (d .key) act i j found-is place-is h in
           onward t ks (sym (m .0)) (here .keys) (here .calls) (more o′ (eo ∙ sym (m .1)) put)
 
 -- after a bad record nothing changes

@@ -8,7 +8,8 @@ ghost use lib.ListN.{length};
 ghost use Rattle.lines.specs.Lines.{page, putText};
 ghost use Rattle.source_table.specs.Fit.{fitTable};
 ghost use Rattle.trace_run.specs.Run.{recordAt, chunkOf};
-ghost use Rattle.trace_run.specs.Placed.{keysOf, indexOf, placeOf, refusedWith, workedOn, unplacedFor, stoppedAt};
+ghost use Rattle.trace_run.specs.Placed.{keysOf, indexOf, placeFor, refusedWith, carriedOn, workedOn, unplacedFor, stoppedAt};
+use admission::Admission;
 use call::Call;
 use call::Outcome;
 use event_record::Request;
@@ -77,15 +78,12 @@ fn find(keys: &[u32; 64], key: u32) -> usize
     64
 }
 
-// The place of the record that is worked on, or 64.
-fn place_for(keys: &[u32; 64], key: u32, act: Act) -> usize
+// The place of the record that an opening or event goes to: where its key was found; else, for an opening, the lowest empty one; else 64. An empty
+// record is searched for only where the admission depends on it.
+fn place_for(keys: &[u32; 64], found: usize, act: Act) -> usize
     requires { ⌜ length (now keys) ≡ 64 ⌝ }
-    ensures { λ r. ⌜ r ≡ placeOf (now (keys .entry)) key act ⌝ }
+    ensures { λ r. ⌜ r ≡ placeFor (now (keys .entry)) found act ⌝ }
 {
-    if key == 0 {
-        return 64;
-    }
-    let found = find(keys, key);
     if found < 64 {
         return found;
     }
@@ -105,32 +103,31 @@ fn refused(answer: Answer, call: Call) -> Outcome
     }
 }
 
-// What comes of the record at its place: the call of the key, or an empty record.
-fn worked(call: Call, key: u32, act: Act) -> Outcome
-    ensures { λ r. ⌜ r ≡ workedOn call key act ⌝ }
+// What comes of an admission at its record, which a refusal leaves as it is.
+fn carried(call: Call, key: u32, admission: Admission) -> Outcome
+    ensures { λ r. ⌜ r ≡ carriedOn call key admission ⌝ }
 {
-    match act {
-        Act::Opens(wanted) => {
-            if call.key == key {
-                return refused(Answer::KeyOnRecord, call);
-            }
-            Call::opened(key, wanted)
-        }
-        Act::Meets(event) => call.handle(event),
+    match admission {
+        Admission::Refuses(answer) => refused(answer, call),
+        Admission::Takes(wanted) => Call::opened(key, wanted),
+        Admission::Reaches(event) => call.handle(event),
     }
 }
 
-// What comes of it where no record is worked on.
+// What comes of an opening or event at the record that it goes to.
+fn worked(call: Call, key: u32, act: Act, missing: bool) -> Outcome
+    ensures { λ r. ⌜ r ≡ workedOn call key act missing ⌝ }
+{
+    let admission = admission::admit(key, act, missing, false);
+    carried(call, key, admission)
+}
+
+// And where it goes to none.
 fn unplaced(key: u32, act: Act) -> Outcome
     ensures { λ r. ⌜ r ≡ unplacedFor key act ⌝ }
 {
-    if key == 0 {
-        return refused(Answer::KeyZero, Call::EMPTY);
-    }
-    match act {
-        Act::Opens(_) => refused(Answer::NoEmptyRecord, Call::EMPTY),
-        Act::Meets(_) => refused(Answer::KeyNotOnRecord, Call::EMPTY),
-    }
+    let admission = admission::admit(key, act, true, true);
+    refused(admission.answer(), Call::EMPTY)
 }
 
 // A bad record ends a run.
@@ -165,9 +162,10 @@ pub fn run(table: [Call; 64], input: &[u8], out: &mut [u8], columns: Columns, st
         };
         count += 1;
         let key = decoded.key;
-        let place = place_for(&keys, key, act);
+        let found = find(&keys, key);
+        let place = place_for(&keys, found, act);
         if place < 64 {
-            let outcome = worked(calls[place], key, act);
+            let outcome = worked(calls[place], key, act, found >= 64);
             let call = outcome.call;
             calls[place] = call;
             keys[place] = call.key;

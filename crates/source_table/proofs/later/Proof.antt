@@ -7,12 +7,12 @@ use borrow.Author.Needs.{needs}
 use Rattle.call.specs.declared.Call.{Call}
 use Rattle.source_table.specs.declared.Found.{Found}
 use Rattle.source_table.specs.declared.Found.the-variants.{At, Nothing}
-use Rattle.source_table.specs.Table.{isMissing, laterOf}
+use Rattle.source_table.specs.Table.{isNothing, laterOf}
 use Rattle.source_table.proofs.later.Statement.{statement}
 use Rattle.source_table.proofs.later.Tie as tie
 
 -- one test in place of two
-by-one-test : (found : Found) (key i : ℕ) (c : Call) → cond (eqb (c .key) key && isMissing found) (At i c) found ≡ laterOf found key i c
+by-one-test : (found : Found) (key i : ℕ) (c : Call) → cond (eqb (c .key) key && isNothing found) (At i c) found ≡ laterOf found key i c
 by-one-test (At j d) key i c = by-test (eqb (c .key) key)
   where
     by-test : (b : Bool) → cond (b && false) (At i c) (At j d) ≡ At j d
@@ -24,7 +24,7 @@ by-one-test Nothing key i c = by-test (eqb (c .key) key)
     by-test true = refl
     by-test false = refl
 
-tested : (b : Bool) (found : Found) (key i : ℕ) (c : Call) → (eqb (c .key) key && isMissing found) ≡ b → cond b (At i c) found ≡ laterOf found key i c
+tested : (b : Bool) (found : Found) (key i : ℕ) (c : Call) → (eqb (c .key) key && isNothing found) ≡ b → cond b (At i c) found ≡ laterOf found key i c
 tested b found key i c p = sym (ap (λ b. cond b (At i c) found) p) ∙ by-one-test found key i c
 
 returns : tie.Need-returns

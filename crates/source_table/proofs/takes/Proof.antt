@@ -5,7 +5,7 @@ use Rattle.source_table.proofs.takes.Statement.{statement}
 use Rattle.source_table.proofs.takes.Tie as tie
 
 returns : tie.Need-returns
-returns c = simp (c .missing .ensures, eq-eqb _ _ (c .before .if1 .taken))
+returns c = simp (c .nothing .ensures, eq-eqb _ _ (c .before .if1 .taken))
 
 returns-2 : tie.Need-returns-2
 returns-2 c = simp (ne-eqb _ _ (c .if1 .left))

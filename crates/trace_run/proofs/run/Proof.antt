@@ -33,9 +33,9 @@ returns c =
 
 loop-again : tie.Need-loop-again Inv-loop μ-loop
 loop-again c =
-    let a = c .before .before .before .before .before .before .before .before .before .before .before .before .before .args in
-    let l = c .before .before .before .before .before .before .before .before .before .loop in
-    let read = c .before .before .before .before .before .before .decode .ensures ∙ ap decodedOf (c .before .before .before .before .before .before .before .record-at .ensures) in
+    let a = c .before .before .before .before .before .before .before .before .before .before .before .before .before .before .before .args in
+    let l = c .before .before .before .before .before .before .before .before .before .before .before .loop in
+    let read = c .before .before .before .before .before .before .before .before .decode .ensures ∙ ap decodedOf (c .before .before .before .before .before .before .before .before .before .record-at .ensures) in
     ⊎-elim
     (λ w. (
       omega arith,
@@ -47,7 +47,7 @@ loop-again c =
             omega arith,
             (
               ap length (w .10) ∙ (length-set (l .keys) _ _ ∙ l .inv .1 .1 .1 .1 .0),
-              rw (add-one (l .index), w .8, w .9, w .10, w .11) (step-in (a .columns) (a .input .now) (begin (a .table) (a .start)) (a .out .now) (l .index) (l .calls) (l .keys) (l .count) (l .at) (l .out) (l .inv .1 .1 .1 .1 .1) (c .before .before .before .before .before .before .decode .result) read _ _ _ (c .before .before .before .before .request .given .1) (c .before .place-for .result) (c .before .place-for .ensures) (w .2 .result) (w .0 .taken) (w .2 .ensures) (w .5 .ensures)),
+              rw (add-one (l .index), w .8, w .9, w .10, w .11) (step-in (a .columns) (a .input .now) (begin (a .table) (a .start)) (a .out .now) (l .index) (l .calls) (l .keys) (l .count) (l .at) (l .out) (l .inv .1 .1 .1 .1 .1) (c .before .before .before .before .before .before .before .before .decode .result) read _ _ _ (c .before .before .before .before .before .before .request .given .1) (c .before .before .before .find .result) (c .before .place-for .result) (c .before .before .before .find .ensures .0) (c .before .place-for .ensures) (w .2 .result) (w .0 .taken) (w .2 .ensures) (w .5 .ensures)),
             ),
           ),
         ),
@@ -63,7 +63,7 @@ loop-again c =
             omega arith,
             (
               ap length (w .8) ∙ l .inv .1 .1 .1 .1 .0,
-              rw (add-one (l .index), w .6, w .7, w .8, w .9) (step-out (a .columns) (a .input .now) (begin (a .table) (a .start)) (a .out .now) (l .index) (l .calls) (l .keys) (l .count) (l .at) (l .out) (l .inv .1 .1 .1 .1 .1) (c .before .before .before .before .before .before .decode .result) read _ _ _ (c .before .before .before .before .request .given .1) (c .before .place-for .result) (c .before .place-for .ensures) (w .2 .result) (w .0 .left) (w .2 .ensures) (w .3 .ensures)),
+              rw (add-one (l .index), w .6, w .7, w .8, w .9) (step-out (a .columns) (a .input .now) (begin (a .table) (a .start)) (a .out .now) (l .index) (l .calls) (l .keys) (l .count) (l .at) (l .out) (l .inv .1 .1 .1 .1 .1) (c .before .before .before .before .before .before .before .before .decode .result) read _ _ _ (c .before .before .before .before .before .before .request .given .1) (c .before .before .before .find .result) (c .before .place-for .result) (c .before .before .before .find .ensures .0) (c .before .place-for .ensures) (w .2 .result) (w .0 .left) (w .2 .ensures) (w .3 .ensures)),
             ),
           ),
         ),
@@ -97,6 +97,7 @@ run-spec =
     (λ c. search needs)
     returns
     (λ c. search needs)
+    (λ c κs. search needs)
     (λ c κs. search needs)
     (λ c. search needs)
     (λ c. search needs)

@@ -1,7 +1,7 @@
--- `source_table::missing` meets its contract. Assumes nothing.
+-- `source_table::nothing` meets its contract. Assumes nothing.
 use borrow.Author.Needs.{needs}
-use Rattle.source_table.proofs.missing.Statement.{statement}
-use Rattle.source_table.proofs.missing.Tie as tie
+use Rattle.source_table.proofs.nothing.Statement.{statement}
+use Rattle.source_table.proofs.nothing.Tie as tie
 
 returns : tie.Need-returns
 returns c = simp (c .enum-told .given .1)
@@ -9,8 +9,8 @@ returns c = simp (c .enum-told .given .1)
 returns-2 : tie.Need-returns-2
 returns-2 c = simp (c .enum-told2 .given .1)
 
-pub missing-spec : {M : Type 1} → statement M
-missing-spec =
+pub nothing-spec : {M : Type 1} → statement M
+nothing-spec =
     tie.close
     (tie.spec
     (λ c. search needs)

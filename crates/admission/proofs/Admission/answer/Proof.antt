@@ -1,0 +1,24 @@
+-- `Admission::answer` meets its contract. Assumes nothing.
+use borrow.Author.Needs.{needs}
+use Rattle.admission.proofs.Admission.answer.Statement.{statement}
+use Rattle.admission.proofs.Admission.answer.Tie as tie
+
+returns : tie.Need-returns
+returns c = simp (c .before .self .given .1)
+
+returns-2 : tie.Need-returns-2
+returns-2 c = simp (c .enum-told .given .1)
+
+returns-3 : tie.Need-returns-3
+returns-3 c = simp (c .enum-told2 .given .1)
+
+pub answer-spec : {M : Type 1} → statement M
+answer-spec =
+    tie.close
+    (tie.spec
+    (λ c. search needs)
+    (λ c. search needs)
+    (λ c. search needs)
+    returns
+    returns-2
+    returns-3)
