@@ -6,6 +6,7 @@ pub mod Signals
 pub mod Lift
 pub mod Wanted
 pub mod Unique
+pub mod Items
 pub mod Unneeded
 pub mod Claims
 pub mod Wrong

@@ -134,15 +134,3 @@ itemHolds item rule =
     && (saidOf (sameClosing (rule .closing)) (item .closing)
     && (saidOf (carries (rule .party)) (item .party)
     && (saidOf (carries (rule .retires)) (item .retires) && saidOf (carries (rule .drops)) (item .drops))))))
-
--- every item that speaks of a case where the event is done holds there, and every one that 01 departs from does not
-abbrev pub allHold : List Item → Case → Rule → Bool
-allHold [] c rule = true
-allHold (item ∷ more) c rule = (not (item .speaks c) || itemHolds item rule) && allHold more c rule
-
-abbrev pub noneHold : List Item → Case → Rule → Bool
-noneHold [] c rule = true
-noneHold (item ∷ more) c rule = (not (item .speaks c) || not (itemHolds item rule)) && noneHold more c rule
-
-abbrev pub itemsHold : Papers → Case → Rule → Bool
-itemsHold papers c rule = not (isDone (rule .answer)) || (allHold (papers .items c) c rule && noneHold (papers .departed c) c rule)

@@ -1,18 +1,28 @@
 -- At every case of the source, a rule that keeps the laws and says what the papers say elsewhere (specs/Elsewhere) is the row of the page. Assumes nothing.
-use mathlib.Core.Bool.{Bool, true}
+use mathlib.Core.Bool.{Bool, _&&_, _||_, not, true}
 use mathlib.Core.List.{List, [], _∷_}
 use mathlib.Core.Path.{_≡_, refl}
+use Rattle.signal.specs.Numbers.{hasSymmetric}
 use Rattle.rows.proofs.Every.{Each, case-in, each}
+use Rattle.rows.proofs.Items.{itemsHold}
+use Rattle.rows.proofs.Same.{bool-same}
 use Rattle.rows.specs.Cases.{Case}
 use Rattle.rows.specs.Every.{Occasion, OnConnect, OnDomainRelease, OnExpiry, OnNoPath, OnPartyRelease, OnPathFound, OnReady, OnSetup}
 use Rattle.rows.specs.Every.{OnTrigger, conj, everyIn, occasionOf}
-use Rattle.rows.specs.Papers.{itemsHold}
+use Rattle.rows.specs.Laws.{sameBool}
+use Rattle.rows.specs.Rules.{isDone}
 use Rattle.rows.specs.States.{AtAwaiting, AtHardUnderway, AtHardWaiting, AtIdle, AtNull, AtSoftInitiated, AtSoftProceeding}
 use Rattle.rows.specs.States.{AtSoftTriggered, Phase}
-use Rattle.source_rows.specs.Claims.{DoneWherePrinted, EveryItemHolds, PapersAreMet, TheOnlyRow, isAsPrinted, isFixed}
+use Rattle.source_rows.specs.Claims.{DoneWherePrinted, EveryItemHolds, PapersAreMet, TheOnlyRow, isFixed, isPrinted, tabled}
 use Rattle.source_rows.specs.Elsewhere.{sourcePapers}
 use Rattle.source_rows.specs.Rows.{sourceRow}
+use Rattle.rows.proofs.Items as items
 use Rattle.rows.proofs.Unique as unique
+
+-- Appendix C-1 is for a call with both services, and 108 is not its matter
+abbrev isAsPrinted : Case → Bool
+isAsPrinted c =
+    not (c .hard && (hasSymmetric (c .soft) && c .room)) || sameBool (isDone (sourceRow c .answer)) (isPrinted (c .phase) (c .happening))
 
 -- the rows say what the papers say elsewhere, and every item that speaks of a case holds there, or is one that 01 departs from: a clause for each state
 -- and event, so that a refusal names its cell
@@ -103,7 +113,12 @@ pub papers-are-met : PapersAreMet
 papers-are-met c = agrees-at c .0
 
 pub every-item-holds : EveryItemHolds
-every-item-holds c = agrees-at c .1 .0
+every-item-holds c before after item =
+    record {
+      held = λ stands done speaks. items.held sourcePapers c (sourceRow c) (agrees-at c .1 .0) done before after item stands speaks;
+      departed = λ stands done speaks. items.departed sourcePapers c (sourceRow c) (agrees-at c .1 .0) done before after item stands speaks;
+    }
 
 pub done-where-printed : DoneWherePrinted
-done-where-printed c = agrees-at c .1 .1 .0
+done-where-printed phase happening =
+    bool-same (isDone (sourceRow (tabled phase happening) .answer)) (isPrinted phase happening) (agrees-at (tabled phase happening) .1 .1 .0)
