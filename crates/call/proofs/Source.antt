@@ -116,6 +116,9 @@ pub stays-sound : claim.StaysSound sourceHalf
 stays-sound = any.stays-sound sourceHalf lawful
 
 -- ---- at the source alone
+pub handle-is-returned : claim.HandleIsReturned
+handle-is-returned c e = refl
+
 pub two-at-most : claim.TwoAtMost
 two-at-most c e o r = omega (arith, few-signals c e o r)
 

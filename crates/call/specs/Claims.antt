@@ -32,7 +32,7 @@ use Rattle.rows.specs.Effects.{partyKind}
 use Rattle.rows.specs.Meaning.{Kept, Obeys}
 use Rattle.rows.specs.States.{heldIn, incumbentOf, isHard, isNull, reroutingOf}
 use Rattle.rows.specs.declared.State.the-variants.{Idle}
-use Rattle.call.specs.Events.{Half, handledAt, sourceHalf}
+use Rattle.call.specs.Events.{Half, eventOf, handledAt, sourceHalf}
 use Rattle.call.specs.Record.{emptied, openedFor, standing}
 use Rattle.call.specs.declared.Call.{Call}
 use Rattle.call.specs.declared.Outcome.{Outcome}
@@ -242,6 +242,10 @@ module _ (half : Half) where
   StaysSound = Always (λ c e o. Sound c → Sound (o .call))
 
 -- ---- at the source alone
+-- What `Call::handle` returns by its contract, at every record and event, is what the claims speak of.
+abbrev pub HandleIsReturned : Type 0
+HandleIsReturned = (c : Call) (e : Event) → Returned sourceHalf c e (eventOf c e)
+
 -- Decision 18: no event fills more than two of the four places.
 abbrev pub TwoAtMost : Type 0
 TwoAtMost = Always sourceHalf (λ c e o. 2 ≤ length (ofKind NoSignal (o .signals)))
