@@ -1,8 +1,6 @@
 -- Values of the finite types that have one number are one. Assumes nothing.
--- a value is told by its number
 use Prim.Native.Nat.{ℕ}
-use native.Mathlib.Omega.{arith}
-use mathlib.Core.Bool.{Bool, cond, false, not, true}
+use mathlib.Core.Bool.{Bool, cond, false, false≢true, not, true}
 use mathlib.Core.Path.{_∙_, _≡_, ap, refl, sym}
 use lib.Dec.{eqb}
 use borrow.Author.Tests.{eq-eqb, eqb-true, ne-eqb}
@@ -22,6 +20,10 @@ use Rattle.rows.specs.Rules.{StartsTimer, StopsTimer, Tells, Timer, Told
 use Rattle.rows.specs.States.{AtAwaiting, AtHardUnderway, AtHardWaiting, AtIdle, AtNull, AtSoftInitiated, AtSoftProceeding}
 use Rattle.rows.specs.States.{AtSoftTriggered, Phase, phaseNumber}
 
+-- a value that its number gives back is told by its number
+by-number : {A : Type 0} (number : A → ℕ) (at : ℕ → A) → ((a : A) → at (number a) ≡ a) → (a b : A) → eqb (number a) (number b) ≡ true → a ≡ b
+by-number number at back a b p = sym (back a) ∙ (ap at (eqb-true (number a) (number b) p) ∙ back b)
+
 abbrev timerAt : ℕ → Timer
 timerAt n = cond (eqb n 0) LeavesTimer (cond (eqb n 1) StartsTimer StopsTimer)
 
@@ -31,7 +33,7 @@ timer-back StartsTimer = refl
 timer-back StopsTimer = refl
 
 pub timer-same : (a b : Timer) → sameTimer a b ≡ true → a ≡ b
-timer-same a b p = cc (timer-back a, timer-back b, ap timerAt (eqb-true (timerNumber a) (timerNumber b) p))
+timer-same = by-number timerNumber timerAt timer-back
 
 abbrev slotAt : ℕ → Slot
 slotAt n = cond (eqb n 0) NoSlot (cond (eqb n 1) OldIncumbent (cond (eqb n 2) OldRerouting NewNumber))
@@ -43,7 +45,7 @@ slot-back OldRerouting = refl
 slot-back NewNumber = refl
 
 pub slot-same : (a b : Slot) → sameSlot a b ≡ true → a ≡ b
-slot-same a b p = cc (slot-back a, slot-back b, ap slotAt (eqb-true (slotNumber a) (slotNumber b) p))
+slot-same = by-number slotNumber slotAt slot-back
 
 pub bool-same : (a b : Bool) → sameBool a b ≡ true → a ≡ b
 bool-same true true p = refl
@@ -52,7 +54,12 @@ bool-same false true p = cc
 bool-same false false p = refl
 
 abbrev phaseAt : ℕ → Phase
-phaseAt n = cond (eqb n 0) AtNull (cond (eqb n 1) AtIdle (cond (eqb n 2) AtHardWaiting (cond (eqb n 3) AtHardUnderway (cond (eqb n 4) AtSoftTriggered (cond (eqb n 5) AtSoftProceeding (cond (eqb n 6) AtSoftInitiated AtAwaiting))))))
+phaseAt n =
+    cond (eqb n 0) AtNull
+    (cond (eqb n 1) AtIdle
+    (cond (eqb n 2) AtHardWaiting
+    (cond (eqb n 3) AtHardUnderway
+    (cond (eqb n 4) AtSoftTriggered (cond (eqb n 5) AtSoftProceeding (cond (eqb n 6) AtSoftInitiated AtAwaiting))))))
 
 phase-back : (x : Phase) → phaseAt (phaseNumber x) ≡ x
 phase-back AtNull = refl
@@ -65,10 +72,16 @@ phase-back AtSoftInitiated = refl
 phase-back AtAwaiting = refl
 
 pub phase-same : (a b : Phase) → samePhase a b ≡ true → a ≡ b
-phase-same a b p = cc (phase-back a, phase-back b, ap phaseAt (eqb-true (phaseNumber a) (phaseNumber b) p))
+phase-same = by-number phaseNumber phaseAt phase-back
 
 abbrev answerAt : ℕ → Answer
-answerAt n = cond (eqb n 0) Done (cond (eqb n 101) TableUnfit (cond (eqb n 102) KeyZero (cond (eqb n 103) KeyOnRecord (cond (eqb n 104) NoEmptyRecord (cond (eqb n 105) KeyNotOnRecord (cond (eqb n 106) NoMeaning (cond (eqb n 107) NotHeld NumbersSpent)))))))
+answerAt n =
+    cond (eqb n 0) Done
+    (cond (eqb n 101) TableUnfit
+    (cond (eqb n 102) KeyZero
+    (cond (eqb n 103) KeyOnRecord
+    (cond (eqb n 104) NoEmptyRecord
+    (cond (eqb n 105) KeyNotOnRecord (cond (eqb n 106) NoMeaning (cond (eqb n 107) NotHeld NumbersSpent)))))))
 
 answer-back : (x : Answer) → answerAt (answerNumber x) ≡ x
 answer-back Done = refl
@@ -82,10 +95,14 @@ answer-back NotHeld = refl
 answer-back NumbersSpent = refl
 
 pub answer-same : (a b : Answer) → sameAnswer a b ≡ true → a ≡ b
-answer-same a b p = cc (answer-back a, answer-back b, ap answerAt (eqb-true (answerNumber a) (answerNumber b) p))
+answer-same = by-number answerNumber answerAt answer-back
 
 abbrev sayingAt : ℕ → Saying
-sayingAt n = cond (eqb n 0) SaysNothing (cond (eqb n 1) Says1 (cond (eqb n 2) Says2 (cond (eqb n 4) Says4 (cond (eqb n 5) Says5 (cond (eqb n 6) Says6 (cond (eqb n 8) Says8 SaysAsCame))))))
+sayingAt n =
+    cond (eqb n 0) SaysNothing
+    (cond (eqb n 1) Says1
+    (cond (eqb n 2) Says2
+    (cond (eqb n 4) Says4 (cond (eqb n 5) Says5 (cond (eqb n 6) Says6 (cond (eqb n 8) Says8 SaysAsCame))))))
 
 saying-back : (x : Saying) → sayingAt (sayingNumber x) ≡ x
 saying-back SaysNothing = refl
@@ -98,7 +115,7 @@ saying-back Says8 = refl
 saying-back SaysAsCame = refl
 
 pub saying-same : (a b : Saying) → sameSaying a b ≡ true → a ≡ b
-saying-same a b p = cc (saying-back a, saying-back b, ap sayingAt (eqb-true (sayingNumber a) (sayingNumber b) p))
+saying-same = by-number sayingNumber sayingAt saying-back
 
 abbrev codeAt : ℕ → CauseCode
 codeAt n = cond (eqb n 0) Section66 CallRejected
@@ -108,7 +125,7 @@ code-back Section66 = refl
 code-back CallRejected = refl
 
 pub code-same : (a b : CauseCode) → sameCode a b ≡ true → a ≡ b
-code-same a b p = cc (code-back a, code-back b, ap codeAt (eqb-true (codeNumber a) (codeNumber b) p))
+code-same = by-number codeNumber codeAt code-back
 
 pub not-so : (a : Bool) → not a ≡ true → a ≡ false
 not-so true p = cc
@@ -116,8 +133,8 @@ not-so false p = refl
 
 pub told-same : (a b : Told) → sameTold a b ≡ true → a ≡ b
 told-same Untold Untold p = refl
-told-same Untold (Tells say code) p = absurd (let z : _≡_ {A = ℕ} 0 1 = cc in omega arith)
-told-same (Tells say code) Untold p = absurd (let z : _≡_ {A = ℕ} 0 1 = cc in omega arith)
+told-same Untold (Tells say code) p = absurd (false≢true p)
+told-same (Tells say code) Untold p = absurd (false≢true p)
 told-same (Tells say code) (Tells other also) p =
     let q : say ≡ other = saying-same say other (left (sameSaying say other) _ p) in
     let r : code ≡ also = code-same code also (right (sameSaying say other) _ p) in
@@ -125,21 +142,24 @@ told-same (Tells say code) (Tells other also) p =
 
 pub closing-same : (a b : Closing) → sameClosing a b ≡ true → a ≡ b
 closing-same NoClosing NoClosing p = refl
-closing-same NoClosing (SendsSetup other) p = absurd (let z : _≡_ {A = ℕ} 0 1 = cc in omega arith)
-closing-same NoClosing (SendsConnect other) p = absurd (let z : _≡_ {A = ℕ} 0 1 = cc in omega arith)
-closing-same NoClosing (Rejects another also) p = absurd (let z : _≡_ {A = ℕ} 0 1 = cc in omega arith)
-closing-same (SendsSetup slot) NoClosing p = absurd (let z : _≡_ {A = ℕ} 0 1 = cc in omega arith)
+closing-same NoClosing (SendsSetup other) p = absurd (false≢true p)
+closing-same NoClosing (SendsConnect other) p = absurd (false≢true p)
+closing-same NoClosing (Rejects another also) p = absurd (false≢true p)
+closing-same (SendsSetup slot) NoClosing p = absurd (false≢true p)
 closing-same (SendsSetup slot) (SendsSetup other) p = ap SendsSetup (slot-same slot other p)
-closing-same (SendsSetup slot) (SendsConnect other) p = absurd (let z : _≡_ {A = ℕ} 0 1 = cc in omega arith)
-closing-same (SendsSetup slot) (Rejects another also) p = absurd (let z : _≡_ {A = ℕ} 0 1 = cc in omega arith)
-closing-same (SendsConnect slot) NoClosing p = absurd (let z : _≡_ {A = ℕ} 0 1 = cc in omega arith)
-closing-same (SendsConnect slot) (SendsSetup other) p = absurd (let z : _≡_ {A = ℕ} 0 1 = cc in omega arith)
+closing-same (SendsSetup slot) (SendsConnect other) p = absurd (false≢true p)
+closing-same (SendsSetup slot) (Rejects another also) p = absurd (false≢true p)
+closing-same (SendsConnect slot) NoClosing p = absurd (false≢true p)
+closing-same (SendsConnect slot) (SendsSetup other) p = absurd (false≢true p)
 closing-same (SendsConnect slot) (SendsConnect other) p = ap SendsConnect (slot-same slot other p)
-closing-same (SendsConnect slot) (Rejects another also) p = absurd (let z : _≡_ {A = ℕ} 0 1 = cc in omega arith)
-closing-same (Rejects say code) NoClosing p = absurd (let z : _≡_ {A = ℕ} 0 1 = cc in omega arith)
-closing-same (Rejects say code) (SendsSetup other) p = absurd (let z : _≡_ {A = ℕ} 0 1 = cc in omega arith)
-closing-same (Rejects say code) (SendsConnect other) p = absurd (let z : _≡_ {A = ℕ} 0 1 = cc in omega arith)
-closing-same (Rejects say code) (Rejects another also) p = let q : say ≡ another = saying-same say another (left (sameSaying say another) _ p) in let r : code ≡ also = code-same code also (right (sameSaying say another) _ p) in cc
+closing-same (SendsConnect slot) (Rejects another also) p = absurd (false≢true p)
+closing-same (Rejects say code) NoClosing p = absurd (false≢true p)
+closing-same (Rejects say code) (SendsSetup other) p = absurd (false≢true p)
+closing-same (Rejects say code) (SendsConnect other) p = absurd (false≢true p)
+closing-same (Rejects say code) (Rejects another also) p =
+    let q : say ≡ another = saying-same say another (left (sameSaying say another) _ p) in
+    let r : code ≡ also = code-same code also (right (sameSaying say another) _ p) in
+    cc
 
 -- what a test of a call's result tells of what the call ensures
 pub same : {r x n : ℕ} → r ≡ x → r ≡ n → eqb x n ≡ true
