@@ -3,8 +3,6 @@
 -- speak of every record, fit or not, and of every event, and of whatever a method returns that does what its half of the control does: `Returned` is the
 -- contract of the source's `Call::handle`, and of the event's own method. Proofs, once for any half that keeps the laws: proofs/Claims.antt; for the source:
 -- proofs/Source.antt. Assumes nothing.
--- what the laws give of a half: what every event keeps, what the documents of its end ask for, and that a setup which is not rejected brings a number
--- above the one on record
 use Prim.Native.Nat.{_+_, _<_, _≤_, ℕ}
 use mathlib.Core.Bool.{cond, false, not, true}
 use mathlib.Core.List.{List, [], _++_, _∷_}
@@ -37,6 +35,8 @@ use Rattle.call.specs.Record.{emptied, openedFor, standing}
 use Rattle.call.specs.declared.Call.{Call}
 use Rattle.call.specs.declared.Outcome.{Outcome}
 
+-- what the laws give of a half: what every event keeps, what the documents of its end ask for, and that a setup which is not rejected brings a number
+-- above the one on record
 pub record Lawful (half : Half) : Type 0 where
   pub kept : (x : Standing) (e : Event) → Kept (half .demands .node) x e (half .does x e)
   pub obeyed : (x : Standing) (e : Event) → Obeys (half .demands) x e (half .does x e)

@@ -1,5 +1,4 @@
 -- What an event does to a record (01, "Events and rows"): at either end, and at the source. Assumes nothing.
--- one half of the control: what the documents ask of its end, and what an event does there to a call
 use Rattle.events.specs.Events.{numberIn}
 use Rattle.events.specs.declared.Event.{Event}
 use Rattle.rows.specs.Cases.{Standing}
@@ -11,6 +10,7 @@ use Rattle.call.specs.Record.{carriedOut, standing}
 use Rattle.call.specs.declared.Call.{Call}
 use Rattle.call.specs.declared.Outcome.{Outcome}
 
+-- one half of the control: what the documents ask of its end, and what an event does there to a call
 pub record Half : Type 0 where
   pub demands : Demands
   pub does : Standing → Event → Effect

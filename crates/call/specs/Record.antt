@@ -1,5 +1,4 @@
 -- The record of a call (01, "The table and its records"), at either end, and how the effect of an event is carried out on it. Assumes nothing.
--- an empty record: every number 0, hard off, soft none, state Null
 use Prim.Native.Nat.{ℕ}
 use mathlib.Core.Bool.{Bool, cond, false}
 use mathlib.Core.List.{[]}
@@ -19,6 +18,7 @@ use Rattle.rows.specs.declared.State.the-variants.{Idle, Null}
 use Rattle.call.specs.declared.Call.{Call}
 use Rattle.call.specs.declared.Outcome.{Outcome}
 
+-- an empty record: every number 0, hard off, soft none, state Null
 abbrev pub emptied : Call
 emptied = record { key = 0; hard = false; soft = NoSoft; state = Null; last = 0; remote = 0 }
 

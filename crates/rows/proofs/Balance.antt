@@ -1,5 +1,4 @@
 -- The balance of slots is the balance of connection numbers, for any call and event, at either end; and a refusal leaves all as it was. Assumes nothing.
--- the numbers in a list of slots
 use Prim.Native.Nat.{_*_, _+_, _≤_, ℕ}
 use native.Mathlib.Nat.{add-mul, one-mul, zero-mul}
 use native.Mathlib.Omega.{arith}
@@ -37,6 +36,7 @@ use Rattle.rows.specs.declared.State.{State}
 use Rattle.rows.specs.declared.State.the-variants.{Awaiting, HardUnderway, HardWaiting, Idle, Null, SoftInitiated, SoftProceeding}
 use Rattle.rows.specs.declared.State.the-variants.{SoftTriggered}
 
+-- the numbers in a list of slots
 abbrev valuesOf : State → ℕ → List Slot → List ℕ
 valuesOf s n [] = []
 valuesOf s n (x ∷ more) = value s n x ∷ valuesOf s n more

@@ -1,5 +1,4 @@
 -- Timer, names, order, honesty and number of the signals, for any call and event, at either end. Assumes nothing.
--- a part of the signals is silent on another kind
 use Prim.Native.Nat.{_+_, _≤_, ℕ}
 use native.Mathlib.Omega.{arith}
 use mathlib.Core.Bool.{Bool, _&&_, _||_, cond, false, false≢true, not, true}
@@ -42,6 +41,7 @@ use Rattle.rows.specs.declared.State.{State}
 use Rattle.rows.specs.declared.State.the-variants.{Awaiting, HardUnderway, HardWaiting, Idle, Null, SoftInitiated, SoftProceeding}
 use Rattle.rows.specs.declared.State.the-variants.{SoftTriggered}
 
+-- a part of the signals is silent on another kind
 pad-other : (k : Kind) → eqb 0 (kindNumber k) ≡ false → (l : List Signal) → ofKind k (pad l) ≡ []
 pad-other k h [] = simp h
 pad-other k h (a ∷ []) = simp h

@@ -1,5 +1,4 @@
 -- Two rules that keep the laws of every row and what the papers say elsewhere at one case are one. Assumes nothing.
--- what carries the same, and is told alike, is the same
 use Prim.Native.Nat.{_+_, ℕ}
 use native.Mathlib.Omega.{arith}
 use mathlib.Core.Bool.{Bool, cond, false, not, true}
@@ -22,6 +21,7 @@ use Rattle.rows.specs.Rules.{SendsConnect, SendsSetup, Slot, StartsTimer
 use Rattle.rows.specs.Rules.{ownIncumbent, ownRerouting, refuses}
 use Rattle.rows.specs.States.{isHardPhase}
 
+-- what carries the same, and is told alike, is the same
 alike : (t u wanted : Told) → isTold t ≡ isTold u → carries t wanted ≡ true → carries u wanted ≡ true → t ≡ u
 alike Untold Untold wanted h p q = refl
 alike Untold (Tells say code) wanted h p q = absurd (let z : _≡_ {A = ℕ} 0 1 = cc in omega arith)

@@ -1,5 +1,4 @@
 -- The case of a call and an event: all that a row may read, and no number. It is finite: 684 cases a phase, 5,472 in all. Assumes nothing.
--- what the connection that an event names is to the call
 use Prim.Native.Nat.{ℕ}
 use mathlib.Core.Bool.{Bool, _&&_, cond, false, true}
 use lib.Dec.{eqb, ltb}
@@ -16,6 +15,7 @@ use Rattle.rows.specs.declared.Class.{Class}
 use Rattle.rows.specs.declared.Class.the-variants.{CameComplete, CameNone, CameOther, CameOutside}
 use Rattle.rows.specs.declared.State.{State}
 
+-- what the connection that an event names is to the call
 pub data Role : Type 0 where
   NamesIncumbent : Role
   NamesRerouting : Role

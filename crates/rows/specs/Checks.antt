@@ -1,8 +1,5 @@
 -- The checks on one event at either end, in the words of 01 ("Numbers of refusal", "Setup", "Signals"): of a call and an event, with no word of cases or
 -- rules. What the documents ask of one end alone is a record, `Demands`. Assumes nothing.
--- What the documents ask of one end: the node, by the party that it tells; 106, the events without meaning; the cause with which a setup is rejected, none
--- where it is not; whether the release of the incumbent, and that of the rerouting connection, bears Cause code #21; and how many signals an event sends at
--- most
 use Prim.Native.Nat.{ℕ}
 use mathlib.Core.Bool.{Bool, _&&_, _||_, cond, false, not, true}
 use mathlib.Core.List.{List, [], _++_, _∷_}
@@ -25,6 +22,9 @@ use Rattle.rows.specs.declared.State.{State}
 use Rattle.rows.specs.declared.State.the-variants.{Awaiting, HardUnderway, HardWaiting, Idle, Null, SoftInitiated, SoftProceeding}
 use Rattle.rows.specs.declared.State.the-variants.{SoftTriggered}
 
+-- What the documents ask of one end: the node, by the party that it tells; 106, the events without meaning; the cause with which a setup is rejected, none
+-- where it is not; whether the release of the incumbent, and that of the rerouting connection, bears Cause code #21; and how many signals an event sends at
+-- most
 pub record Demands : Type 0 where
   pub node : Node
   pub meaningless : Standing → Event → Bool

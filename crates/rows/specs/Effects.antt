@@ -1,5 +1,4 @@
 -- What a rule does to a call: one definition for either end, carried out on its state, the next number and the cause that came. Assumes nothing.
--- the number in a slot: of the state before, or the next one, n
 use Prim.Native.Nat.{ℕ}
 use mathlib.Core.Bool.{Bool, _&&_, _||_, false, true}
 use mathlib.Core.List.{List, [], _++_, _∷_}
@@ -23,6 +22,7 @@ use Rattle.rows.specs.States.{Phase, built, holdsIncumbent, holdsRerouti
 use Rattle.rows.specs.declared.Effect.{Effect}
 use Rattle.rows.specs.declared.State.{State}
 
+-- the number in a slot: of the state before, or the next one, n
 abbrev pub value : State → ℕ → Slot → ℕ
 value s n NoSlot = 0
 value s n OldIncumbent = incumbentOf s

@@ -1,5 +1,4 @@
 -- Every value of the finite types, tested one after the other. Assumes nothing.
--- all of the tests pass
 use mathlib.Core.Bool.{Bool, _&&_, false, true}
 use mathlib.Core.List.{List, [], _∷_}
 use Rattle.signal.specs.declared.Crankback.{Crankback}
@@ -13,6 +12,7 @@ use Rattle.rows.specs.States.{Phase}
 use Rattle.rows.specs.declared.Class.{Class}
 use Rattle.rows.specs.declared.Class.the-variants.{CameComplete, CameNone, CameOther, CameOutside}
 
+-- all of the tests pass
 abbrev pub conj : List Bool → Bool
 conj [] = true
 conj (b ∷ more) = b && conj more

@@ -1,6 +1,5 @@
 -- What the laws mean of a call and an event, at either end, in terms that mention no case and no rule: `x` is how the call stands, `f` what the event does.
 -- Assumes nothing.
--- the number that an event gives: the last one plus 1
 use Prim.Native.Nat.{_+_, _≤_, ℕ}
 use mathlib.Core.Bool.{cond, false, not, true}
 use mathlib.Core.List.{List, [], _∷_}
@@ -24,6 +23,7 @@ use Rattle.rows.specs.Rules.{isDone}
 use Rattle.rows.specs.States.{heldIn, incumbentOf, isHard, isNull, phaseOf, reroutingOf}
 use Rattle.rows.specs.declared.Effect.{Effect}
 
+-- the number that an event gives: the last one plus 1
 abbrev pub givenBy : Standing → Effect → List ℕ
 givenBy x f = cond (f .gives) ((x .last + 1) ∷ []) []
 

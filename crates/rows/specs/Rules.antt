@@ -1,6 +1,5 @@
 -- What a row says, as data, and the words in which rows are written. A rule has one field for each turn of the printed order of signals (01, "Signals"):
 -- so their order, "once each", and "a release names its own connection" hold by construction. Assumes nothing.
--- a connection, as a rule speaks of it: one that was held, or the next number
 use mathlib.Core.Bool.{Bool, cond, false, true}
 use lib.Dec.{eqb}
 use Rattle.signal.specs.Numbers.{answerNumber}
@@ -11,6 +10,7 @@ use Rattle.signal.specs.declared.CauseCode.the-variants.{CallRejected, Section6
 use Rattle.rows.specs.Cases.{NamesIncumbent, NamesOther, NamesRerouting, Role}
 use Rattle.rows.specs.States.{AtNull, Phase, holdsIncumbent, holdsRerouting}
 
+-- a connection, as a rule speaks of it: one that was held, or the next number
 pub data Slot : Type 0 where
   NoSlot : Slot
   OldIncumbent : Slot

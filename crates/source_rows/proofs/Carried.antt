@@ -1,5 +1,4 @@
 -- Rules that are the same in every state, carried out in any. Assumes nothing.
--- a refusal leaves the state
 use Prim.Native.Nat.{_+_}
 use native.Mathlib.Omega.{arith}
 use mathlib.Core.Bool.{Bool, cond, false, not, true}
@@ -38,6 +37,7 @@ use Rattle.source_rows.specs.Demands.{mayGive}
 use Rattle.source_rows.specs.Rows.{atSource, passing, rejectedOld, rejectedUnsupported, rejects, rowIn, setupAsked, setupIn}
 use Rattle.source_rows.specs.Rows.{sourceEffect, sourceRow}
 
+-- a refusal leaves the state
 pub refused-at : (a : Answer) (s : State) (next : Fresh) (cause : ReceivedCause) → atSource s next cause (refuses a (phaseOf s)) ≡ refusedIn a s
 refused-at a Null next cause = refl
 refused-at a (Idle i) next cause = refl

@@ -1,5 +1,4 @@
 -- That the laws and the papers leave one row at every case of the source. Proofs: proofs/Only.antt. Assumes nothing.
--- the row of a case says what the papers say elsewhere
 use Prim.Native.Nat.{ℕ}
 use mathlib.Core.Bool.{Bool, _&&_, false, true}
 use mathlib.Core.List.{List, [], _++_, _∷_}
@@ -16,6 +15,7 @@ use Rattle.rows.specs.States.{Phase, phaseNumber}
 use Rattle.source_rows.specs.Elsewhere.{sourcePapers}
 use Rattle.source_rows.specs.Rows.{sourceRow}
 
+-- the row of a case says what the papers say elsewhere
 abbrev pub isFixed : Case → Bool
 isFixed c = conj (fixes sourcePapers c (sourceRow c))
 

@@ -1,7 +1,5 @@
 -- What the documents ask of the source node, in the words of 01: of a call and an event (`sourceDemands`), and the same by case (`sourceWants`). None of it
 -- mentions a row. Proofs that the two agree: proofs/Agree.antt. Assumes nothing.
--- ---- of a call and an event
--- the two Triggered states, the two Proceeding states, Soft Initiated
 use Prim.Native.Nat.{ℕ}
 use mathlib.Core.Bool.{Bool, _&&_, _||_, cond, false, not, true}
 use mathlib.Core.List.{List, [], _∷_}
@@ -24,6 +22,8 @@ use Rattle.rows.specs.Rules.{Closing, NoClosing, OldRerouting, Rejects, Rule, S
 use Rattle.rows.specs.States.{Phase, holdsRerouting, isHard, isHardPhase, isNull, phaseNumber, stateNumber}
 use Rattle.rows.specs.declared.State.{State}
 
+-- ---- of a call and an event
+-- the two Triggered states, the two Proceeding states, Soft Initiated
 abbrev pub isTriggered : State → Bool
 isTriggered s = eqb (stateNumber s) 2 || eqb (stateNumber s) 4
 
