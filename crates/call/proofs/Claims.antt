@@ -16,7 +16,7 @@ use Rattle.signal.specs.Numbers.{answerNumber}
 use Rattle.signal.specs.declared.Kind.the-variants.{SetupRequest}
 use Rattle.signal.specs.declared.ReroutingCause.{ReroutingCause}
 use Rattle.signal.specs.declared.Signal.{Signal}
-use Rattle.events.specs.Events.{numberIn, reported}
+use Rattle.events.specs.Events.{numberBrought, reported}
 use Rattle.events.specs.declared.Event.{Event}
 use Rattle.events.specs.declared.Event.the-variants.{Connect, Expiry, FromDomain, FromParty, NoPath, PathFound, Ready, Setup, Trigger}
 use Rattle.rows.proofs.Same.{not-so}
@@ -126,14 +126,14 @@ module _ (half : Half) (L : claim.Lawful half) where
     asked = L .obeyed x e
 
     -- refused, ended, or gone on
-    by-end : (P : Call → Type 0) → (isDone (f .answer) ≡ false → P c) → (isDone (f .answer) ≡ true → isNull (f .state) ≡ true → P emptied) → (isDone (f .answer) ≡ true → isNull (f .state) ≡ false → P (movedTo c (f .state) (lastAfter (f .gives) (c .last)) (cond (f .stores) (numberIn e) (c .remote)))) → P (o .call)
+    by-end : (P : Call → Type 0) → (isDone (f .answer) ≡ false → P c) → (isDone (f .answer) ≡ true → isNull (f .state) ≡ true → P emptied) → (isDone (f .answer) ≡ true → isNull (f .state) ≡ false → P (movedTo c (f .state) (lastAfter (f .gives) (c .last)) (cond (f .stores) (numberBrought e) (c .remote)))) → P (o .call)
     by-end P refused ended on = by-answer (isDone (f .answer)) refl
       where
-        by-null : (b : Bool) → isDone (f .answer) ≡ true → isNull (f .state) ≡ b → P (cond b emptied (movedTo c (f .state) (lastAfter (f .gives) (c .last)) (cond (f .stores) (numberIn e) (c .remote))))
+        by-null : (b : Bool) → isDone (f .answer) ≡ true → isNull (f .state) ≡ b → P (cond b emptied (movedTo c (f .state) (lastAfter (f .gives) (c .last)) (cond (f .stores) (numberBrought e) (c .remote))))
         by-null true d p = ended d p
         by-null false d p = on d p
 
-        by-answer : (b : Bool) → isDone (f .answer) ≡ b → P (cond b (callDone c (numberIn e) (f .state) (f .gives) (f .stores)) c)
+        by-answer : (b : Bool) → isDone (f .answer) ≡ b → P (cond b (callDone c (numberBrought e) (f .state) (f .gives) (f .stores)) c)
         by-answer true d = by-null (isNull (f .state)) d refl
         by-answer false d = refused d
 
@@ -243,7 +243,7 @@ module _ (half : Half) (L : claim.Lawful half) where
     left-alone r l =
         by-end (λ d. d ≡ c) (λ refused. refl)
         (λ d p. absurd (true≢false (sym p ∙ (ap isNull (l .state) ∙ l .live))))
-        (λ d p. λ i. movedTo c (l .state i) (lastAfter (l .gives i) (c .last)) (cond (l .stores i) (numberIn e) (c .remote)))
+        (λ d p. λ i. movedTo c (l .state i) (lastAfter (l .gives i) (c .last)) (cond (l .stores i) (numberBrought e) (c .remote)))
 
     remote-live : isNull (o .call .state) ≡ false → o .call .remote ≡ claim.numberElse (c .remote) (storedWanted (half .demands) x e)
     remote-live live =
@@ -254,7 +254,7 @@ module _ (half : Half) (L : claim.Lawful half) where
         live
         ∙ ap (claim.numberElse (c .remote)) (asked .stored)
       where
-        by : (b : Bool) → cond b (numberIn e) (c .remote) ≡ claim.numberElse (c .remote) (cond b (numberIn e ∷ []) [])
+        by : (b : Bool) → cond b (numberBrought e) (c .remote) ≡ claim.numberElse (c .remote) (cond b (numberBrought e ∷ []) [])
         by true = refl
         by false = refl
 
@@ -273,8 +273,8 @@ module _ (half : Half) (L : claim.Lawful half) where
 
   -- ---- the claims, in the order of specs/Claims
 
-  pub refusals-change-nothing : claim.RefusalsChangeNothing half
-  refusals-change-nothing c e o r = rw r (λ refused.
+  pub refusal-leaves-record : claim.RefusalLeavesRecord half
+  refusal-leaves-record c e o r = rw r (λ refused.
       let no : isDone (f c e .answer) ≡ false = ne-eqb _ 0 refused in
       (rw no, law c e .quiet no .signals))
 
@@ -373,7 +373,7 @@ module _ (half : Half) (L : claim.Lawful half) where
         arith,
         balance c e n,
         once c e sound n,
-        count-append n (claim.endedReceived (claim.answered (handledAt half c e)) (reported e)) (endedSent (f c e .signals)),
+        count-append n (claim.endedReceived (claim.answerGiven (handledAt half c e)) (reported e)) (endedSent (f c e .signals)),
       ))
 
   pub stays-sound : claim.StaysSound half

@@ -40,8 +40,8 @@ opens-with-one key wanted o r = rw r (refl, (refl, (refl, (refl, (refl, refl))))
 pub opens-with-services : claim.OpensWithServices
 opens-with-services key wanted o r = rw r ((λ p. rw p (refl, refl)), λ s p. rw p (refl, refl))
 
-pub refusals-change-nothing : claim.RefusalsChangeNothing sourceHalf
-refusals-change-nothing = any.refusals-change-nothing sourceHalf lawful
+pub refusal-leaves-record : claim.RefusalLeavesRecord sourceHalf
+refusal-leaves-record = any.refusal-leaves-record sourceHalf lawful
 
 pub given-106 : claim.Given106 sourceHalf
 given-106 = any.given-106 sourceHalf lawful

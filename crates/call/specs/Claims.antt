@@ -42,14 +42,14 @@ pub record Lawful (half : Half) : Type 0 where
   pub obeyed : (x : Standing) (e : Event) → Obeys (half .demands) x e (half .does x e)
   pub newer : (x : Standing) (code : Switchover) (number : ℕ) → half .demands .rejected x code number ≡ [] → x .remote < number
 
-abbrev pub answered : Outcome → ℕ
-answered o = answerNumber (o .answer)
+abbrev pub answerGiven : Outcome → ℕ
+answerGiven o = answerNumber (o .answer)
 
 -- 01, "The table and its records": an opening gives number 1 to the incumbent, in Rerouting Idle, with remote number 0, and sends nothing.
 abbrev pub OpensWithOne : Type 0
 OpensWithOne =
     (key : ℕ) (wanted : Wanted) (o : Outcome) → o ≡ openedFor key wanted →
-    (answered o ≡ 0)
+    (answerGiven o ≡ 0)
     × ((o .signals ≡ places [])
     × ((o .call .key ≡ key) × ((o .call .state ≡ Idle 1) × ((o .call .last ≡ 1) × (o .call .remote ≡ 0)))))
 
@@ -75,7 +75,7 @@ endedReceived answer got = cond (ltb 0 answer) [] got
 
 -- the connections that an event ends, by a release received and by releases sent; read off the event, its answer and its signals alone
 abbrev pub ended : Event → Outcome → List ℕ
-ended e o = endedReceived (answered o) (reported e) ++ endedSent (o .signals)
+ended e o = endedReceived (answerGiven o) (reported e) ++ endedSent (o .signals)
 
 -- the part of 01's 101 that speaks of held numbers: they lie between 1 and the last, and two held ones differ
 pub record Sound (c : Call) : Type 0 where
@@ -92,8 +92,8 @@ module _ (half : Half) where
   Always P = (c : Call) (e : Event) (o : Outcome) → Returned c e o → P c e o
 
   -- Demand 1 and 01, "Numbers of refusal": a refusal leaves the record as it was, and all four places are "none".
-  abbrev pub RefusalsChangeNothing : Type 0
-  RefusalsChangeNothing = Always (λ c e o. (answered o ≡ 0 → ⊥) → (o .call ≡ c) × (o .signals ≡ places []))
+  abbrev pub RefusalLeavesRecord : Type 0
+  RefusalLeavesRecord = Always (λ c e o. (answerGiven o ≡ 0 → ⊥) → (o .call ≡ c) × (o .signals ≡ places []))
 
   -- 01, "Numbers of refusal": 106, 107 and 108, each in the document's words, with decision 26 for Null (rows, specs/Checks; of the source source_rows,
   -- specs/Demands). 108 is "path found", or a setup that would otherwise be accepted, when the last number is 65,535.
@@ -108,17 +108,17 @@ module _ (half : Half) where
 
   -- 01, "Numbers of refusal": each number is given exactly when its check applies and no earlier one does, and 0 exactly when none applies.
   abbrev pub Given106 : Type 0
-  Given106 = Always (λ c e o. (answered o ≡ 106) ↔ IsMeaningless c e)
+  Given106 = Always (λ c e o. (answerGiven o ≡ 106) ↔ IsMeaningless c e)
 
   abbrev pub Given107 : Type 0
-  Given107 = Always (λ c e o. (answered o ≡ 107) ↔ ((IsMeaningless c e → ⊥) × NamesNotHeld c e))
+  Given107 = Always (λ c e o. (answerGiven o ≡ 107) ↔ ((IsMeaningless c e → ⊥) × NamesNotHeld c e))
 
   abbrev pub Given108 : Type 0
-  Given108 = Always (λ c e o. (answered o ≡ 108) ↔ ((IsMeaningless c e → ⊥) × ((NamesNotHeld c e → ⊥) × HasNoNumber c e)))
+  Given108 = Always (λ c e o. (answerGiven o ≡ 108) ↔ ((IsMeaningless c e → ⊥) × ((NamesNotHeld c e → ⊥) × HasNoNumber c e)))
 
   abbrev pub Given0 : Type 0
   Given0 =
-      Always (λ c e o. (answered o ≡ 0) ↔ ((IsMeaningless c e → ⊥) × ((NamesNotHeld c e → ⊥) × (HasNoNumber c e → ⊥))))
+      Always (λ c e o. (answerGiven o ≡ 0) ↔ ((IsMeaningless c e → ⊥) × ((NamesNotHeld c e → ⊥) × (HasNoNumber c e → ⊥))))
 
   -- 01, "Signals": four places, filled from the front in the printed order; unused places stand behind, and each is "none" in all its parts (decision 17).
   abbrev pub SignalsInOrder : Type 0
@@ -173,7 +173,7 @@ module _ (half : Half) where
       Always
       (λ c e o.
       (r : Signal) → rejectionWanted (half .demands) (standing c) e ≡ r ∷ [] →
-      (answered o ≡ 0) × ((o .call ≡ c) × (o .signals ≡ places (r ∷ []))))
+      (answerGiven o ≡ 0) × ((o .call ≡ c) × (o .signals ≡ places (r ∷ []))))
 
   -- 01, "Signals": Cause code #21 stands on the releases that the documents of the end say, with no Rerouting cause, and nowhere else; at the source on the
   -- rerouting release of a connect answered no, and on that of D18's last line.
@@ -234,7 +234,7 @@ module _ (half : Half) where
   ReceivedNotReleased =
       Always
       (λ c e o.
-      Sound c → (x : ℕ) → 1 ≤ count x (endedReceived (answered o) (reported e)) →
+      Sound c → (x : ℕ) → 1 ≤ count x (endedReceived (answerGiven o) (reported e)) →
       (count x (endedSent (o .signals)) ≡ 0) × (count x (heldIn (o .call .state)) ≡ 0))
 
   -- Demand 3, for one event: a sound record stays sound (an emptied one holds nothing, and is sound).

@@ -1,5 +1,5 @@
 -- What an event does to a record (01, "Events and rows"): at either end, and at the source. Assumes nothing.
-use Rattle.events.specs.Events.{numberIn}
+use Rattle.events.specs.Events.{numberBrought}
 use Rattle.events.specs.declared.Event.{Event}
 use Rattle.rows.specs.Cases.{Standing}
 use Rattle.rows.specs.Checks.{Demands}
@@ -17,7 +17,7 @@ pub record Half : Type 0 where
 
 -- an event at a record: its effect, carried out
 abbrev pub handledAt : Half → Call → Event → Outcome
-handledAt half c e = carriedOut c (numberIn e) (half .does (standing c) e)
+handledAt half c e = carriedOut c (numberBrought e) (half .does (standing c) e)
 
 -- the source node's half: the rows of its page
 abbrev pub sourceHalf : Half

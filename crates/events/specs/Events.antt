@@ -44,16 +44,16 @@ setupNumber Ready = []
 setupNumber Expiry = []
 
 -- what is stored, where an event stores it: that number
-abbrev pub numberIn : Event → ℕ
-numberIn Trigger = 0
-numberIn PathFound = 0
-numberIn NoPath = 0
-numberIn (Connect c agreed) = 0
-numberIn (Setup code number) = number
-numberIn (FromParty cause) = 0
-numberIn (FromDomain c cause crankback) = 0
-numberIn Ready = 0
-numberIn Expiry = 0
+abbrev pub numberBrought : Event → ℕ
+numberBrought Trigger = 0
+numberBrought PathFound = 0
+numberBrought NoPath = 0
+numberBrought (Connect c agreed) = 0
+numberBrought (Setup code number) = number
+numberBrought (FromParty cause) = 0
+numberBrought (FromDomain c cause crankback) = 0
+numberBrought Ready = 0
+numberBrought Expiry = 0
 
 abbrev pub isExpiry : Event → Bool
 isExpiry Trigger = false

@@ -4,7 +4,7 @@ use mathlib.Core.Path.{_≡_}
 use Rattle.runs.proofs.Demand.{laws-keep-demand-three}
 use Rattle.runs.proofs.Exact.{one-number-leaves-one-control}
 use Rattle.runs.specs.Exact.{OneNumber, sentFor, storedFor}
-use Rattle.runs.specs.Run.{Does, meets, opens}
+use Rattle.runs.specs.Run.{Does, Table, meets, opens}
 use Rattle.signal.specs.declared.Wanted.{Wanted}
 use Rattle.events.specs.declared.Event.{Event}
 use Rattle.call.specs.Events.{sourceHalf}
@@ -13,8 +13,7 @@ use Rattle.source_table.proofs.Source.{event-changes-its-call, given-exactly, o
 use Rattle.source_table.specs.Table.{ranOf, tableOf}
 use Rattle.promises.proofs.Laws.{lawful}
 use Rattle.promises.proofs.Rejected.{turns-away}
-use Rattle.promises.specs.Claims.{Table}
-use Rattle.promises.specs.Source.{actOf, document, numbering, ours, source}
+use Rattle.promises.specs.Source.{asAct, document, numbering, ours, source}
 use Rattle.source_table.specs.Claims as table
 use Rattle.promises.specs.Claims as claim
 
@@ -24,14 +23,14 @@ demand-three = laws-keep-demand-three source numbering ours lawful turns-away
 
 -- ---- demand 1
 pub silent-refusals : claim.SilentRefusals ours
-silent-refusals ys a h = refusals-change-nothing ys (a .key) (actOf (a .does)) h
+silent-refusals ys a h = refusals-change-nothing ys (a .key) (asAct (a .does)) h
 
 -- ---- demand 2
 pub answers-exactly : claim.AnswersExactly ours
-answers-exactly ys a = given-exactly ys (a .key) (actOf (a .does))
+answers-exactly ys a = given-exactly ys (a .key) (asAct (a .does))
 
-does-exactly-by : (ys : Table) (k : ℕ) (does : Does Wanted Event) → table.answered sourceHalf ys k (actOf does) ≡ 0 →
-    (tableOf sourceHalf ys k (actOf does) ≡ storedFor source document ys k does) × (ranOf sourceHalf ys k (actOf does) .done .signals ≡ sentFor source document ys k does)
+does-exactly-by : (ys : Table source) (k : ℕ) (does : Does Wanted Event) → table.answered sourceHalf ys k (asAct does) ≡ 0 →
+    (tableOf sourceHalf ys k (asAct does) ≡ storedFor source document ys k does) × (ranOf sourceHalf ys k (asAct does) .done .signals ≡ sentFor source document ys k does)
 does-exactly-by ys k (opens w) done = opening-takes-its-record ys k w done
 does-exactly-by ys k (meets e) done = event-changes-its-call ys k e done
 
@@ -40,7 +39,7 @@ does-exactly ys a done = does-exactly-by ys (a .key) (a .does) done
 
 -- ---- one control
 pub one-number : OneNumber source document
-one-number ys a = first-is-one (table.checks sourceHalf ys (a .key) (actOf (a .does)))
+one-number ys a = first-is-one (table.checks sourceHalf ys (a .key) (asAct (a .does)))
 
 pub one-control : claim.OneControl
 one-control = one-number-leaves-one-control source document one-number

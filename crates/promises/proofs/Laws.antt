@@ -9,7 +9,7 @@ use lib.Dec.{eqb, ltb}
 use lib.ListN.{getD, length}
 use borrow.Author.Tests.{eqb-false, lt-ltb}
 use Rattle.runs.proofs.Keyed.{has-key}
-use Rattle.runs.specs.Account.{Lawful, Lives, Met, Opened, givenBy}
+use Rattle.runs.specs.Account.{LawfulControl, Lives, Met, Opened, givenBetween}
 use Rattle.runs.specs.Run.{meets, opens}
 use Rattle.signal.proofs.Counting.{one-other}
 use Rattle.signal.specs.Counting.{count, endedSent, named, ofKind, one}
@@ -31,7 +31,7 @@ use Rattle.call.specs.declared.Call.{Call}
 use Rattle.source_table.proofs.Fit.{fit-exactly}
 use Rattle.source_table.proofs.Source.{answers-in-order, event-changes-its-call, opening-takes-its-record, refusals-change-nothing}
 use Rattle.source_table.specs.Fit.{fitTable}
-use Rattle.promises.specs.Source.{actOf, ours, source}
+use Rattle.promises.specs.Source.{asAct, ours, source}
 use Rattle.source_table.specs.Claims as table
 
 -- ---- what an answer 0 says: the table is fit, the key is not 0, and the key stands or does not
@@ -105,7 +105,7 @@ lives-on k c e own live = by-state (isNull (eventOf c e .call .state)) refl
 
 -- the balance, where the event is not refused
 balanced : (c : Call) (e : Event) → answerNumber (eventOf c e .answer) ≡ 0 → (x : ℕ) →
-    count x (heldIn (c .state)) + count x (givenBy source c (eventOf c e .call)) ≡ count x (heldIn (eventOf c e .call .state)) + count x (reported e ++ endedSent (eventOf c e .signals))
+    count x (heldIn (c .state)) + count x (givenBetween source c (eventOf c e .call)) ≡ count x (heldIn (eventOf c e .call .state)) + count x (reported e ++ endedSent (eventOf c e .signals))
 balanced c e done x =
     balances c e _ refl x
     ∙ ap (λ n. count x (heldIn (eventOf c e .call .state)) + count x (endedReceived n (reported e) ++ endedSent (eventOf c e .signals))) done
@@ -130,7 +130,7 @@ at-most-one x last now m (n ∷ []) own few one′ grown =
 at-most-one x last now m (n ∷ (k ∷ ns)) own few one′ grown = absurd (omega arith)
 
 asked-for : (c : Call) (e : Event) → isNull (c .state) ≡ false → (x : ℕ) → 1 ≤ x →
-    count x (source .requested (eventOf c e .signals)) ≤ count x (givenBy source c (eventOf c e .call))
+    count x (source .requested (eventOf c e .signals)) ≤ count x (givenBetween source c (eventOf c e .call))
 asked-for c e live x positive = by-state (isNull (eventOf c e .call .state)) refl
   where
     sent : List Signal
@@ -139,7 +139,7 @@ asked-for c e live x positive = by-state (isNull (eventOf c e .call .state)) ref
     own : AllAre (eventOf c e .call .last) (named sent)
     own = signals-name-their-own c e _ refl .1 .1 .1
 
-    by-state : (b : Bool) → isNull (eventOf c e .call .state) ≡ b → count x (source .requested (eventOf c e .signals)) ≤ count x (givenBy source c (eventOf c e .call))
+    by-state : (b : Bool) → isNull (eventOf c e .call .state) ≡ b → count x (source .requested (eventOf c e .signals)) ≤ count x (givenBetween source c (eventOf c e .call))
     by-state false h =
         let last = last-by-one c e _ refl h in
         let few = at-most-one x (c .last) (eventOf c e .call .last) _ (named sent) own (omega (arith, length-named sent)) (last .1) (last .0) in
@@ -163,11 +163,11 @@ event-law ys k e done =
       balances = λ x.
           balanced c e (here .1) x ∙ ap (λ ss. count x (heldIn (eventOf c e .call .state)) + count x (reported e ++ endedSent ss)) (sym (changed .1));
       asks = λ x positive.
-          subst (λ ss. count x (source .requested ss) ≤ count x (givenBy source c (eventOf c e .call))) (sym (changed .1)) (asked-for c e live x positive);
+          subst (λ ss. count x (source .requested ss) ≤ count x (givenBetween source c (eventOf c e .call))) (sym (changed .1)) (asked-for c e live x positive);
     }
 
 -- ---- all of them
-pub lawful : Lawful source ours
+pub lawful : LawfulControl source ours
 lawful =
     record {
       unused = refl;
@@ -175,7 +175,7 @@ lawful =
       nothing-held = refl;
       nothing-released = refl;
       nothing-requested = refl;
-      refused = λ ys a h. refusals-change-nothing ys (a .key) (actOf (a .does)) h;
+      refused = λ ys a h. refusals-change-nothing ys (a .key) (asAct (a .does)) h;
       opened = opening-law;
       met = event-law;
     }

@@ -12,9 +12,9 @@ use Rattle.lent.specs.Keyed.{onRecord}
 use Rattle.runs.proofs.Demand.{nothing-inserted-where-refused}
 use Rattle.runs.specs.Demand.{TurnsAway}
 use Rattle.runs.specs.Late.{Late, LateOrUnsupported, Rejected, SetupFor, Unsupported}
-use Rattle.runs.specs.Run.{Asked, callOf, emptyTable, meets}
+use Rattle.runs.specs.Run.{KeyedRequest, Table, callByKey, emptyTable, meets}
 use Rattle.signal.specs.Causes.{oldNumber, unsupported}
-use Rattle.signal.specs.Numbers.{answerNumber, isClearing}
+use Rattle.signal.specs.Numbers.{answerNumber, hasSymmetric, isClearing}
 use Rattle.signal.specs.Signals.{places, rejection}
 use Rattle.signal.specs.declared.Signal.{Signal}
 use Rattle.signal.specs.declared.Soft.{Soft}
@@ -39,8 +39,7 @@ use Rattle.source_table.proofs.Source.{answers-in-order, event-changes-its-call
 use Rattle.source_table.specs.Fit.{fitTable}
 use Rattle.source_table.specs.Table.{ranOf, tableOf}
 use Rattle.promises.proofs.Laws.{lawful, live-of}
-use Rattle.promises.specs.Claims.{Table}
-use Rattle.promises.specs.Source.{actOf, asksSupported, isSymmetric, numbering, ours, source}
+use Rattle.promises.specs.Source.{asAct, asksSupported, numbering, ours, source}
 use Rattle.source_table.specs.Claims as table
 use Rattle.promises.specs.Claims as claim
 
@@ -100,7 +99,7 @@ replaced-self k (c ∷ cs) = by-test (eqb (c .key) k) (replaced-self k cs)
     by-test false rest = ap (λ t. c ∷ t) rest
 
 -- over a fit table, a setup whose rejection is wanted is answered 0 with it, and changes no record
-turned-away : (ys : Table) (k : ℕ) (code : Switchover) (number : ℕ) (r : Signal) → table.FitTable ys → (k ≡ 0 → ⊥) → table.onRecord k ys ≡ true →
+turned-away : (ys : Table source) (k : ℕ) (code : Switchover) (number : ℕ) (r : Signal) → table.FitTable ys → (k ≡ 0 → ⊥) → table.onRecord k ys ≡ true →
     rejectionWanted sourceDemands (standing (table.callOf k ys)) (Setup code number) ≡ r ∷ [] →
     (table.answered sourceHalf ys k (Meets (Setup code number)) ≡ 0)
     × ((ranOf sourceHalf ys k (Meets (Setup code number)) .done .signals ≡ places (r ∷ [])) × (tableOf sourceHalf ys k (Meets (Setup code number)) ≡ ys))
@@ -112,7 +111,7 @@ turned-away ys k code number r fit named here wanted =
     (done, (changed .1 ∙ left .1 .1, changed .0 ∙ (ap (λ c. table.replacedFor k c ys) (left .1 .0) ∙ replaced-self k ys)))
 
 -- the call of a setup is in use, with symmetric service
-is-symmetric : (s : Soft) → isSymmetric s ≡ true → s ≡ Symmetric
+is-symmetric : (s : Soft) → hasSymmetric s ≡ true → s ≡ Symmetric
 is-symmetric NoSoft h = absurd (false≢true h)
 is-symmetric Asymmetric h = absurd (false≢true h)
 is-symmetric Symmetric h = refl
@@ -136,44 +135,44 @@ is-setup (FromDomain k cause crankback) n numbered = absurd (no-number numbered)
 is-setup Ready n numbered = absurd (no-number numbered)
 is-setup Expiry n numbered = absurd (no-number numbered)
 
-setup-rejected : (ys : Table) (a : Asked source) (code : Switchover) (number : ℕ) → table.FitTable ys → (a .key ≡ 0 → ⊥) → onRecord (source .key) (a .key) ys ≡ true →
-    rejectionWanted sourceDemands (standing (callOf source (a .key) ys)) (Setup code number) ≡ reject code ∷ [] →
+setup-rejected : (ys : Table source) (a : KeyedRequest source) (code : Switchover) (number : ℕ) → table.FitTable ys → (a .key ≡ 0 → ⊥) → onRecord (source .key) (a .key) ys ≡ true →
+    rejectionWanted sourceDemands (standing (callByKey source (a .key) ys)) (Setup code number) ≡ reject code ∷ [] →
     a .does ≡ meets (Setup code number) → Rejected source numbering ys a (ours ys a)
 setup-rejected ys a code number fit named here wanted is =
     let t = turned-away ys (a .key) code number (reject code) fit named here wanted in
     record {
       event = Setup code number;
       is = is;
-      answer = subst (λ d. answerNumber (ranOf sourceHalf ys (a .key) (actOf d) .done .answer) ≡ 0) (sym is) (t .0);
-      signals = subst (λ d. ranOf sourceHalf ys (a .key) (actOf d) .done .signals ≡ places (reject code ∷ [])) (sym is) (t .1 .0);
-      table = subst (λ d. tableOf sourceHalf ys (a .key) (actOf d) ≡ ys) (sym is) (t .1 .1);
+      answer = subst (λ d. answerNumber (ranOf sourceHalf ys (a .key) (asAct d) .done .answer) ≡ 0) (sym is) (t .0);
+      signals = subst (λ d. ranOf sourceHalf ys (a .key) (asAct d) .done .signals ≡ places (reject code ∷ [])) (sym is) (t .1 .0);
+      table = subst (λ d. tableOf sourceHalf ys (a .key) (asAct d) ≡ ys) (sym is) (t .1 .1);
     }
 
 -- a setup over a fit table whose rejection is wanted, with whatever code it has
-rejected-by : (ys : Table) (a : Asked source) (e : Event) (n : ℕ) → table.FitTable ys → SetupFor source numbering ys a e n →
-    ((code : Switchover) → e ≡ Setup code n → callOf source (a .key) ys .soft ≡ Symmetric → isNull (callOf source (a .key) ys .state) ≡ false →
-    rejectionWanted sourceDemands (standing (callOf source (a .key) ys)) (Setup code n) ≡ reject code ∷ []) →
+rejected-by : (ys : Table source) (a : KeyedRequest source) (e : Event) (n : ℕ) → table.FitTable ys → SetupFor source numbering ys a e n →
+    ((code : Switchover) → e ≡ Setup code n → callByKey source (a .key) ys .soft ≡ Symmetric → isNull (callByKey source (a .key) ys .state) ≡ false →
+    rejectionWanted sourceDemands (standing (callByKey source (a .key) ys)) (Setup code n) ≡ reject code ∷ []) →
     Rejected source numbering ys a (ours ys a)
 rejected-by ys a e n fit setup wanted =
     let is = is-setup e n (setup .numbered) in
-    let c = callOf source (a .key) ys in
+    let c = callByKey source (a .key) ys in
     setup-rejected ys a (is .0) n fit (setup .named) (setup .known)
     (wanted (is .0) (is .1) (is-symmetric (c .soft) (setup .taken)) (live-of (a .key) ys (setup .named) (fit-exactly ys .1 fit) (setup .known)))
     (setup .is ∙ ap meets (is .1))
 
-late-rejected : (ys : Table) (a : Asked source) → table.FitTable ys → Late source numbering ys a → Rejected source numbering ys a (ours ys a)
+late-rejected : (ys : Table source) (a : KeyedRequest source) → table.FitTable ys → Late source numbering ys a → Rejected source numbering ys a (ours ys a)
 late-rejected ys a fit (e, (n, (setup, late))) =
-    rejected-by ys a e n fit setup (λ code is symmetric live. wanted-late (callOf source (a .key) ys) code n symmetric live late)
+    rejected-by ys a e n fit setup (λ code is symmetric live. wanted-late (callByKey source (a .key) ys) code n symmetric live late)
 
-unsupported-rejected : (ys : Table) (a : Asked source) → table.FitTable ys → Unsupported source numbering ys a → Rejected source numbering ys a (ours ys a)
+unsupported-rejected : (ys : Table source) (a : KeyedRequest source) → table.FitTable ys → Unsupported source numbering ys a → Rejected source numbering ys a (ours ys a)
 unsupported-rejected ys a fit (e, (n, (setup, other))) =
     rejected-by ys a e n fit setup
-    (λ code is symmetric live. wanted-unsupported (callOf source (a .key) ys) code n symmetric live (sym (ap asksSupported is) ∙ other))
+    (λ code is symmetric live. wanted-unsupported (callByKey source (a .key) ys) code n symmetric live (sym (ap asksSupported is) ∙ other))
 
 -- ---- what demand 3 asks to be shown (runs, specs/Demand)
 -- over too many records every request is refused with 101
 pub too-many-are-refused : claim.TooManyAreRefused
-too-many-are-refused n many a = unfit-is-refused (emptyTable source n) (a .key) (actOf (a .does)) (by-test (fitTable (emptyTable source n)) refl)
+too-many-are-refused n many a = unfit-is-refused (emptyTable source n) (a .key) (asAct (a .does)) (by-test (fitTable (emptyTable source n)) refl)
   where
     by-test : (b : Bool) → fitTable (emptyTable source n) ≡ b → fitTable (emptyTable source n) ≡ false
     by-test true fit =
@@ -181,25 +180,25 @@ too-many-are-refused n many a = unfit-is-refused (emptyTable source n) (a .key) 
         absurd (omega arith)
     by-test false unfit = unfit
 
-refused-throughout : (n : ℕ) → 1024 < n → (a : Asked source) → ours (emptyTable source n) a .answer ≡ 0 → ⊥
+refused-throughout : (n : ℕ) → 1024 < n → (a : KeyedRequest source) → ours (emptyTable source n) a .answer ≡ 0 → ⊥
 refused-throughout n many a done = let refused : ours (emptyTable source n) a .answer ≡ 101 = too-many-are-refused n many a in omega arith
 
 pub too-many-take-none : claim.TooManyTakeNone
-too-many-take-none n many items at = nothing-inserted-where-refused source numbering ours refl (lawful .refused) n (refused-throughout n many) items at
+too-many-take-none n many strands at = nothing-inserted-where-refused source numbering ours refl (lawful .refused) n (refused-throughout n many) strands at
 
 pub turns-away : TurnsAway source numbering ours
 turns-away =
     record {
       Fit = table.FitTable;
       begins = λ n. by-length n (ltb 1024 n) refl;
-      stays = λ ys a. stays-fit ys (a .key) (actOf (a .does));
+      stays = λ ys a. stays-fit ys (a .key) (asAct (a .does));
       rejects = rejects;
     }
   where
-    by-length : (n : ℕ) (b : Bool) → ltb 1024 n ≡ b → table.FitTable (emptyTable source n) ⊎ ((a : Asked source) → ours (emptyTable source n) a .answer ≡ 0 → ⊥)
+    by-length : (n : ℕ) (b : Bool) → ltb 1024 n ≡ b → table.FitTable (emptyTable source n) ⊎ ((a : KeyedRequest source) → ours (emptyTable source n) a .answer ≡ 0 → ⊥)
     by-length n false t = inl (empty-fit n (ltb-false 1024 n t))
     by-length n true t = inr (refused-throughout n (ltb-true 1024 n t))
 
-    rejects : (ys : Table) (a : Asked source) → table.FitTable ys → LateOrUnsupported source numbering ys a → Rejected source numbering ys a (ours ys a)
+    rejects : (ys : Table source) (a : KeyedRequest source) → table.FitTable ys → LateOrUnsupported source numbering ys a → Rejected source numbering ys a (ours ys a)
     rejects ys a fit (inl late) = late-rejected ys a fit late
     rejects ys a fit (inr other) = unsupported-rejected ys a fit other

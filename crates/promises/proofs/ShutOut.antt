@@ -13,8 +13,8 @@ use Rattle.signal.specs.Counting.{one, count, kindNumber}
 use Rattle.signal.specs.Signals.{none}
 use Rattle.call.specs.declared.Call.{Call}
 use Rattle.call.specs.Record.{emptied}
-use Rattle.runs.specs.Run.{Asked, Control, after, emptyTable, callOf}
-use Rattle.runs.specs.Account.{Log, nothing, oneTo, logged}
+use Rattle.runs.specs.Run.{KeyedRequest, Control, tableAfter, emptyTable, callByKey}
+use Rattle.runs.specs.Account.{Log, emptyLog, oneTo, logged}
 use Rattle.runs.specs.Demand.{AccountAt}
 use Rattle.runs.proofs.Demand.{demand-three-says}
 use Rattle.runs.specs.ShutOut as control
@@ -23,7 +23,7 @@ use Rattle.promises.specs.Source.{source, numbering, document, ours}
 use Rattle.promises.specs.Claims.{DemandThree}
 use Rattle.promises.specs.Inserted.{b4, awaiting}
 use Rattle.promises.specs.ShutOut as claim
-use Rattle.promises.specs.ShutOut.{opening, switched, initiated, ready, isNew, moved, inventing, keepingOne, endingTwice, namingNotGiven, takingLate, withB4}
+use Rattle.promises.specs.ShutOut.{opening, switched, initiated, ready, isJustOpened, moved, inventing, keepingOne, endingTwice, namingNotGiven, takingLate, withB4}
 use Rattle.promises.proofs.Claims.{answers-exactly, one-number}
 use Rattle.promises.proofs.Inserted.{b4-is-late}
 
@@ -56,22 +56,22 @@ untouching-is-shut-out h =
     (λ same. let e : _≡_ {A = ℕ} 0 7 = ap (λ (ys : List Call). getD ys 0 emptied .key) same in omega arith) h
 
 -- B3 sends connect 2.
-is-moved : control.moves source ours isNew initiated ready ≡ true
+is-moved : control.moves source ours isJustOpened initiated ready ≡ true
 unfolding readFrom has distinctOf
 is-moved = refl
 
 pub moving-numbers-is-shut-out : claim.MovingNumbersIsShutOut
 moving-numbers-is-shut-out h =
-    moving-breaks source document ours isNew moved initiated ready is-moved
+    moving-breaks source document ours isJustOpened moved initiated ready is-moved
     (λ same. let e : _≡_ {A = ℕ} 0 8 = ap (λ (ss : List Signal). kindNumber (getD ss 0 none .kind)) same in omega arith) h
 
 -- ---- demand 3
 -- the record and the log of key 7 at the end of a run over one record
-abbrev recordAt : Control source → List (Asked source) → Call
-recordAt C requests = callOf source 7 (after source C (emptyTable source 1) requests)
+abbrev recordAt : Control source → List (KeyedRequest source) → Call
+recordAt C requests = callByKey source 7 (tableAfter source C (emptyTable source 1) requests)
 
-abbrev logAt : Control source → List (Asked source) → Log
-logAt C requests = logged source C 7 (emptyTable source 1) nothing requests
+abbrev logAt : Control source → List (KeyedRequest source) → Log
+logAt C requests = logged source C 7 (emptyTable source 1) emptyLog requests
 
 -- The first number given is to be 1.
 given-seven : logAt inventing (opening ∷ []) .given ≡ 7 ∷ []
@@ -150,5 +150,5 @@ none-keeps-demand-three = (
   ),
 )
   where
-    account-of : (C : Control source) → DemandThree C → (requests : List (Asked source)) → AccountAt source C 1 requests 7
+    account-of : (C : Control source) → DemandThree C → (requests : List (KeyedRequest source)) → AccountAt source C 1 requests 7
     account-of C h requests = demand-three-says source numbering C h .account 1 requests 7 (λ e. omega arith)

@@ -4,15 +4,11 @@
 use Prim.Native.Nat.{_<_, ℕ}
 use mathlib.Core.List.{List}
 use mathlib.Core.Path.{_≡_}
-use Rattle.runs.specs.Run.{Asked, Control, RefusalsAreSilent, emptyTable}
-use Rattle.runs.specs.Woven.{Item, itself, woven}
-use Rattle.call.specs.declared.Call.{Call}
+use Rattle.runs.specs.Run.{Control, KeyedRequest, RefusalsAreSilent, emptyTable}
+use Rattle.runs.specs.Woven.{Strand, itself, woven}
 use Rattle.promises.specs.Source.{document, numbering, ours, source}
 use Rattle.runs.specs.Demand as demand
 use Rattle.runs.specs.Exact as exact
-
-abbrev pub Table : Type 0
-Table = List Call
 
 -- Demand 3, of every sequence of requests over an empty table of any length, and all that is inserted into it: setups for calls then on
 -- record with symmetric service, each with a number not above the one then recorded, or with any code but "clearing", whatever its number
@@ -23,7 +19,7 @@ Table = List Call
 -- that has ended, every number was ended exactly once, also where its key was used again; no other number is held or ended. What is ended
 -- is read off events and signals (runs, specs/Demand, Late and Account).
 abbrev pub DemandThree : Control source → Type 0
-DemandThree C = demand.DemandThree source numbering C
+DemandThree C = demand.KeepsDemandThree source numbering C
 
 -- Demand 1: a refusal changes no record and sends no signal, over any table.
 abbrev pub SilentRefusals : Control source → Type 0
@@ -32,22 +28,22 @@ SilentRefusals C = RefusalsAreSilent source C
 -- Demands 1 and 2: over any table every request is answered with the number of the first check that applies, and what is done stores and
 -- sends exactly what 01 asks.
 abbrev pub AnswersExactly : Control source → Type 0
-AnswersExactly C = exact.AnswersExactly source document C
+AnswersExactly C = exact.AnswersEverywhere source document C
 
 abbrev pub DoesExactly : Control source → Type 0
-DoesExactly C = exact.DoesExactly source document C
+DoesExactly C = exact.DoesEverywhere source document C
 
 -- 01, "What the contracts settle": the three together leave one control. Two that keep them reply alike to every request over every table:
 -- the same answer, signals and table.
 abbrev pub OneControl : Type 0
-OneControl = exact.OneControl source document
+OneControl = exact.LeavesOneControl source document
 
 -- 01, 101: over more than 1,024 records, all empty, every request is refused.
 abbrev pub TooManyAreRefused : Type 0
-TooManyAreRefused = (n : ℕ) → 1024 < n → (a : Asked source) → ours (emptyTable source n) a .answer ≡ 101
+TooManyAreRefused = (n : ℕ) → 1024 < n → (a : KeyedRequest source) → ours (emptyTable source n) a .answer ≡ 101
 
 -- So no call comes on record there, and nothing is ever inserted: demand 3 then speaks of the sequence alone.
 abbrev pub TooManyTakeNone : Type 0
 TooManyTakeNone =
-    (n : ℕ) → 1024 < n → (items : List (Item source)) → demand.LateInserted source numbering ours n items →
-    woven source items ≡ itself source items
+    (n : ℕ) → 1024 < n → (strands : List (Strand source)) → demand.LateInserted source numbering ours n strands →
+    woven source strands ≡ itself source strands

@@ -1,17 +1,15 @@
 -- The source node's end of a call, and its control over a table: what `source_table::handle` is proved to do. Assumes nothing.
-use mathlib.Core.Bool.{Bool, cond, false, true}
+use mathlib.Core.Bool.{Bool, cond, true}
 use mathlib.Core.List.{List, [], _∷_}
 use Rattle.runs.specs.Exact.{Document}
 use Rattle.runs.specs.Late.{Numbering}
 use Rattle.runs.specs.Run.{Control, Does, End, meets, opens}
 use Rattle.signal.specs.Causes.{oldNumber, unsupported}
 use Rattle.signal.specs.Counting.{endedSent, named, ofKind}
-use Rattle.signal.specs.Numbers.{answerNumber, isClearing}
+use Rattle.signal.specs.Numbers.{answerNumber, hasSymmetric, isClearing}
 use Rattle.signal.specs.Signals.{places, rejection}
 use Rattle.signal.specs.declared.Kind.the-variants.{SetupRequest}
 use Rattle.signal.specs.declared.Signal.{Signal}
-use Rattle.signal.specs.declared.Soft.{Soft}
-use Rattle.signal.specs.declared.Soft.the-variants.{Asymmetric, NoSoft, Symmetric}
 use Rattle.signal.specs.declared.Wanted.{Wanted}
 use Rattle.events.specs.Events.{reported, setupNumber}
 use Rattle.events.specs.declared.Act.{Act}
@@ -24,12 +22,6 @@ use Rattle.call.specs.Record.{emptied, openedFor}
 use Rattle.call.specs.declared.Call.{Call}
 use Rattle.source_table.specs.Claims.{FirstOf, checks}
 use Rattle.source_table.specs.Table.{ranOf, tableOf}
-
--- a call with symmetric service
-abbrev pub isSymmetric : Soft → Bool
-isSymmetric NoSoft = false
-isSymmetric Asymmetric = false
-isSymmetric Symmetric = true
 
 abbrev pub source : End
 source =
@@ -66,21 +58,21 @@ numbering =
     record {
       remote = λ c. c .remote;
       number = setupNumber;
-      takes = λ c. isSymmetric (c .soft);
+      takes = λ c. hasSymmetric (c .soft);
       supported = λ c e. asksSupported e;
       reject = λ c e. places (rejection (cond (asksSupported e) oldNumber unsupported) ∷ []);
     }
 
-abbrev pub actOf : Does Wanted Event → Act
-actOf (opens w) = Opens w
-actOf (meets e) = Meets e
+abbrev pub asAct : Does Wanted Event → Act
+asAct (opens w) = Opens w
+asAct (meets e) = Meets e
 
 -- what 01 asks: the number of the first check that applies (source_table, specs/Claims says what each check asks); an opening's call and an
 -- event's, with what each sends
 abbrev pub document : Document source
 document =
     record {
-      Answers = λ ys a n. FirstOf n (checks sourceHalf ys (a .key) (actOf (a .does)));
+      Answers = λ ys a n. FirstOf n (checks sourceHalf ys (a .key) (asAct (a .does)));
       newCall = λ k w. openedFor k w .call;
       newSent = λ k w. openedFor k w .signals;
       metCall = λ c e. eventOf c e .call;
@@ -91,7 +83,7 @@ document =
 abbrev pub ours : Control source
 ours ys a =
     record {
-      answer = answerNumber (ranOf sourceHalf ys (a .key) (actOf (a .does)) .done .answer);
-      signals = ranOf sourceHalf ys (a .key) (actOf (a .does)) .done .signals;
-      table = tableOf sourceHalf ys (a .key) (actOf (a .does));
+      answer = answerNumber (ranOf sourceHalf ys (a .key) (asAct (a .does)) .done .answer);
+      signals = ranOf sourceHalf ys (a .key) (asAct (a .does)) .done .signals;
+      table = tableOf sourceHalf ys (a .key) (asAct (a .does));
     }

@@ -59,8 +59,8 @@ none-came (WithCause k) p = some-came k (eqb (k .number) 1) (eqb (k .number) 4) 
 pub class-exactly : claim.ClassExactly
 class-exactly = record { none = λ got. (none-came got, λ q. rw q); outside = outside-came; complete = complete-came }
 
-pub asked-exactly : claim.AskedExactly
-asked-exactly =
+pub asking-exactly : claim.AskingExactly
+asking-exactly =
     record {
       clearing = λ s. (λ p. eqb-true (s .code) 1 (chose-second (λ q. cc) (λ q. cc) (eqb (s .code) 0) _ p), λ q. rw q);
       immediate = λ s. (λ p. eqb-true (s .code) 0 (chose-first (λ q. cc) (λ q. cc) _ (eqb (s .code) 1) p), λ q. rw q);

@@ -6,11 +6,11 @@ use Rattle.signal.specs.declared.Crankback.{Crankback}
 use Rattle.signal.specs.declared.Crankback.the-variants.{AlternateFound, NoAlternate, NoCrankback}
 use Rattle.signal.specs.declared.Soft.{Soft}
 use Rattle.signal.specs.declared.Soft.the-variants.{Asymmetric, NoSoft, Symmetric}
-use Rattle.rows.specs.Cases.{Asked, AsksClearing, AsksImmediate, AsksOther, Case, Connected, DomainReleased, Expired, FoundNone}
+use Rattle.rows.specs.Cases.{Asking, AsksClearing, AsksImmediate, AsksOther, Case, Connected, DomainReleased, Expired, FoundNone}
 use Rattle.rows.specs.Cases.{FoundPath, Happening, NamesIncumbent, NamesOther, NamesRerouting, PartyReleased, Role, SaidReady}
 use Rattle.rows.specs.Cases.{SetUp, Triggered}
-use Rattle.rows.specs.Every.{conj, everyAsked, everyBool, everyClass, everyCrankback, everyHappening, everyIn, everyRole, everySoft}
-use Rattle.rows.specs.Every.{occasionOf, overAsked, overBool, overClass, overCrankback, overRole, overSoft}
+use Rattle.rows.specs.Every.{conj, everyAsking, everyBool, everyClass, everyCrankback, everyHappening, everyIn, everyRole, everySoft}
+use Rattle.rows.specs.Every.{occasionOf, overAsking, overBool, overClass, overCrankback, overRole, overSoft}
 use Rattle.rows.specs.declared.Class.{Class}
 use Rattle.rows.specs.declared.Class.the-variants.{CameComplete, CameNone, CameOther, CameOutside}
 
@@ -46,10 +46,10 @@ class-at f p CameOutside = each (overClass f) p .1 .0
 class-at f p CameComplete = each (overClass f) p .1 .1 .0
 class-at f p CameOther = each (overClass f) p .1 .1 .1 .0
 
-pub asked-at : (f : Asked → Bool) → everyAsked f ≡ true → (x : Asked) → f x ≡ true
-asked-at f p AsksImmediate = each (overAsked f) p .0
-asked-at f p AsksClearing = each (overAsked f) p .1 .0
-asked-at f p AsksOther = each (overAsked f) p .1 .1 .0
+pub asking-at : (f : Asking → Bool) → everyAsking f ≡ true → (x : Asking) → f x ≡ true
+asking-at f p AsksImmediate = each (overAsking f) p .0
+asking-at f p AsksClearing = each (overAsking f) p .1 .0
+asking-at f p AsksOther = each (overAsking f) p .1 .1 .0
 
 pub soft-at : (f : Soft → Bool) → everySoft f ≡ true → (x : Soft) → f x ≡ true
 soft-at f p NoSoft = each (overSoft f) p .0
@@ -66,7 +66,7 @@ happening-at f Triggered p = p
 happening-at f FoundPath p = p
 happening-at f FoundNone p = p
 happening-at f (Connected role agreed) p = bool-at (λ a. f (Connected role a)) (role-at (λ r. everyBool (λ a. f (Connected r a))) p role) agreed
-happening-at f (SetUp asked late) p = bool-at (λ l. f (SetUp asked l)) (asked-at (λ a. everyBool (λ l. f (SetUp a l))) p asked) late
+happening-at f (SetUp asked late) p = bool-at (λ l. f (SetUp asked l)) (asking-at (λ a. everyBool (λ l. f (SetUp a l))) p asked) late
 happening-at f (PartyReleased class) p = class-at (λ c. f (PartyReleased c)) p class
 happening-at f (DomainReleased role class crankback) p =
     crankback-at (λ k. f (DomainReleased role class k))

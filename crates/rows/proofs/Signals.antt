@@ -15,7 +15,7 @@ use Rattle.signal.specs.declared.Kind.the-variants.{ReroutingRelease, SetupRequ
 use Rattle.signal.specs.declared.ReceivedCause.{ReceivedCause}
 use Rattle.signal.specs.declared.ReceivedCause.the-variants.{NoCause, WithCause}
 use Rattle.signal.specs.declared.Signal.{Signal}
-use Rattle.events.specs.Events.{isExpiry, isFromParty, numberIn, receivedIn}
+use Rattle.events.specs.Events.{isExpiry, isFromParty, numberBrought, receivedIn}
 use Rattle.events.specs.declared.Event.{Event}
 use Rattle.events.specs.declared.Event.the-variants.{Connect, Expiry, FromDomain, FromParty, NoPath, PathFound, Ready, Setup, Trigger}
 use Rattle.rows.proofs.Balance.{done, few, sent}
@@ -609,7 +609,7 @@ module _ (node : Node) (x : Standing) (e : Event) (rule : Rule) (fit : fits rule
         kind-placed SetupRequest refl all (few node x e rule fit),
         closing-in SetupRequest refl refl refl refl refl refl,
         setups-sent s n got (rule .closing),
-        one-long (rule .stores) (numberIn e),
+        one-long (rule .stores) (numberBrought e),
         one-long (givesNew rule) n,
       )
       (either-setup (givesNew rule) (sendsSetup (rule .closing)) (rule .stores) p q)

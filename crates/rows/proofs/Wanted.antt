@@ -17,18 +17,18 @@ use Rattle.signal.specs.declared.Kind.the-variants.{IncumbentRelease, NoSignal,
 use Rattle.signal.specs.declared.ReceivedCause.{ReceivedCause}
 use Rattle.signal.specs.declared.SentCause.the-variants.{Absent, Numbered}
 use Rattle.signal.specs.declared.Signal.{Signal}
-use Rattle.events.specs.Events.{numberIn, receivedIn}
+use Rattle.events.specs.Events.{numberBrought, receivedIn}
 use Rattle.events.specs.declared.Event.{Event}
 use Rattle.events.specs.declared.Event.the-variants.{Connect, Expiry, FromDomain, FromParty, NoPath, PathFound, Ready, Setup, Trigger}
 use Rattle.rows.proofs.Every.{Each, each, left, right}
 use Rattle.rows.proofs.Same.{bool-same, code-same, not-so, saying-same}
 use Rattle.rows.proofs.Sent.{append-none, pad, placed, sent-length}
-use Rattle.rows.specs.Cases.{Case, NamesIncumbent, NamesOther, NamesRerouting, Standing, askedOf, caseOf, happeningOf, hasRoom}
+use Rattle.rows.specs.Cases.{Case, NamesIncumbent, NamesOther, NamesRerouting, Standing, askingOf, caseOf, happeningOf, hasRoom}
 use Rattle.rows.specs.Cases.{isIncumbent, isRerouting, roleOf}
-use Rattle.rows.specs.Checks.{Demands, answerWanted, asksNumber, code21Wanted, firstOf, holds, isItsIncumbent, isNone, namesNotHeld}
+use Rattle.rows.specs.Checks.{Demands, answerNumberWanted, asksNumber, code21Wanted, firstOf, holds, isItsIncumbent, isNone, namesNotHeld}
 use Rattle.rows.specs.Checks.{rejectionWanted, rejections, storedWanted}
 use Rattle.rows.specs.Effects.{causeSaid, causesOf, closingSent, partyKind, said, switchSent, timerSent, toldSent}
-use Rattle.rows.specs.Laws.{Wants, answerIn, asksFor, bears21, firstAnswer, fits, holdsRole, isEmpty, isLawful, isNumber, isWanted}
+use Rattle.rows.specs.Laws.{Wants, answerIn, asksFor, bears21, firstAnswer, fits, holdsRole, isEmpty, isLawful, saysNumber, isWanted}
 use Rattle.rows.specs.Laws.{laws, leavesRejected, leftAlone, namesUnheld, rejectedIn, rejectsWith, sameAnswer, sameBool, sameCode}
 use Rattle.rows.specs.Laws.{sameRole, sameSaying, sends, storesIn, wants}
 use Rattle.rows.specs.Meaning.{Agrees, Left, Obeys, storedBy}
@@ -108,7 +108,7 @@ none-of [] = refl
 none-of (say ∷ more) = refl
 
 -- ---- a rejection
-numbered : (got : ReceivedCause) (say : Saying) → isNumber say ≡ true → said got say ≡ Numbered (causeSaid say)
+numbered : (got : ReceivedCause) (say : Saying) → saysNumber say ≡ true → said got say ≡ Numbered (causeSaid say)
 numbered got SaysNothing p = absurd (false≢true p)
 numbered got Says1 p = refl
 numbered got Says2 p = refl
@@ -214,19 +214,19 @@ module _ (w : Wants) (d : Demands) (agrees : Agrees w d) (x : Standing) (e : Eve
   asks PathFound = refl
   asks NoPath = refl
   asks (Connect y agreed) = refl
-  asks (Setup code number) = none-of (w .rejected (phaseOf s) (askedOf code) (isLate number (x .remote))) ∙ ap isNone (agrees .rejected x code number)
+  asks (Setup code number) = none-of (w .rejected (phaseOf s) (askingOf code) (isLate number (x .remote))) ∙ ap isNone (agrees .rejected x code number)
   asks (FromParty cause) = refl
   asks (FromDomain y cause crankback) = refl
   asks Ready = refl
   asks Expiry = refl
 
-  pub answered : sameAnswer (rule .answer) (answerIn w c) ≡ true → answerNumber (rule .answer) ≡ answerWanted d x e
+  pub answered : sameAnswer (rule .answer) (answerIn w c) ≡ true → answerNumber (rule .answer) ≡ answerNumberWanted d x e
   answered p =
       eqb-true (answerNumber (rule .answer)) (answerNumber (answerIn w c)) p
       ∙ (first-number (w .meaningless c) (namesUnheld (c .phase) (c .happening)) (asksFor w (c .phase) (c .happening) && not (c .room))
       ∙ λ i. firstOf (agrees .meaningless x e i) (names-unheld s (x .remote) e i) (asks e i && not (hasRoom (x .last))))
 
-  stores-is : (e : Event) (b : Bool) → b ≡ storesIn w (caseOf x e) (happeningOf s (x .remote) e) → cond b (numberIn e ∷ []) [] ≡ storedWanted d x e
+  stores-is : (e : Event) (b : Bool) → b ≡ storesIn w (caseOf x e) (happeningOf s (x .remote) e) → cond b (numberBrought e ∷ []) [] ≡ storedWanted d x e
   stores-is Trigger b p = ap (λ t. cond t (0 ∷ []) []) p
   stores-is PathFound b p = ap (λ t. cond t (0 ∷ []) []) p
   stores-is NoPath b p = ap (λ t. cond t (0 ∷ []) []) p
@@ -236,7 +236,7 @@ module _ (w : Wants) (d : Demands) (agrees : Agrees w d) (x : Standing) (e : Eve
       ∙ λ i.
       cond
       (not (agrees .meaningless x (Setup code number) i)
-      && ((none-of (w .rejected (phaseOf s) (askedOf code) (isLate number (x .remote))) ∙ ap isNone (agrees .rejected x code number)) i && hasRoom (x .last)))
+      && ((none-of (w .rejected (phaseOf s) (askingOf code) (isLate number (x .remote))) ∙ ap isNone (agrees .rejected x code number)) i && hasRoom (x .last)))
       (number ∷ []) []
   stores-is (FromParty cause) b p = ap (λ t. cond t (0 ∷ []) []) p
   stores-is (FromDomain y cause crankback) b p = ap (λ t. cond t (0 ∷ []) []) p
@@ -256,7 +256,7 @@ module _ (w : Wants) (d : Demands) (agrees : Agrees w d) (x : Standing) (e : Eve
   rejection-is NoPath = refl
   rejection-is (Connect y agreed) = refl
   rejection-is (Setup code number) =
-      cond-rejections (w .meaningless (caseOf x (Setup code number))) (w .rejected (phaseOf s) (askedOf code) (isLate number (x .remote)))
+      cond-rejections (w .meaningless (caseOf x (Setup code number))) (w .rejected (phaseOf s) (askingOf code) (isLate number (x .remote)))
       ∙ λ i. cond (agrees .meaningless x (Setup code number) i) [] (rejections (agrees .rejected x code number i))
   rejection-is (FromParty cause) = refl
   rejection-is (FromDomain y cause crankback) = refl

@@ -22,10 +22,10 @@ pub data Role : Type 0 where
   NamesOther : Role
 
 -- the switchover that a setup asks for: immediate (code 0), when the call is cleared (code 1), another
-pub data Asked : Type 0 where
-  AsksImmediate : Asked
-  AsksClearing : Asked
-  AsksOther : Asked
+pub data Asking : Type 0 where
+  AsksImmediate : Asking
+  AsksClearing : Asking
+  AsksOther : Asking
 
 -- an event without its numbers; a setup is late or not
 pub data Happening : Type 0 where
@@ -33,7 +33,7 @@ pub data Happening : Type 0 where
   FoundPath : Happening
   FoundNone : Happening
   Connected : Role → Bool → Happening
-  SetUp : Asked → Bool → Happening
+  SetUp : Asking → Bool → Happening
   PartyReleased : Class → Happening
   DomainReleased : Role → Class → Crankback → Happening
   SaidReady : Happening
@@ -71,8 +71,8 @@ classOf NoCause = CameNone
 classOf (WithCause k) = cond (eqb (k .number) 1) CameOutside (cond (eqb (k .number) 4) CameComplete CameOther)
 
 -- 01, "The trace": 1 is clearing; 5.2: 0 is immediate
-abbrev pub askedOf : Switchover → Asked
-askedOf s = cond (eqb (s .code) 0) AsksImmediate (cond (eqb (s .code) 1) AsksClearing AsksOther)
+abbrev pub askingOf : Switchover → Asking
+askingOf s = cond (eqb (s .code) 0) AsksImmediate (cond (eqb (s .code) 1) AsksClearing AsksOther)
 
 -- the number of a class, in the order of its words; the numbers are ours
 abbrev pub classNumber : Class → ℕ
@@ -88,7 +88,7 @@ cameNone CameOutside = false
 cameNone CameComplete = false
 cameNone CameOther = false
 
-abbrev pub asksClearing : Asked → Bool
+abbrev pub asksClearing : Asking → Bool
 asksClearing AsksImmediate = false
 asksClearing AsksClearing = true
 asksClearing AsksOther = false
@@ -102,7 +102,7 @@ happeningOf s remote Trigger = Triggered
 happeningOf s remote PathFound = FoundPath
 happeningOf s remote NoPath = FoundNone
 happeningOf s remote (Connect c agreed) = Connected (roleOf s c) agreed
-happeningOf s remote (Setup code number) = SetUp (askedOf code) (isLate number remote)
+happeningOf s remote (Setup code number) = SetUp (askingOf code) (isLate number remote)
 happeningOf s remote (FromParty cause) = PartyReleased (classOf cause)
 happeningOf s remote (FromDomain c cause crankback) = DomainReleased (roleOf s c) (classOf cause) crankback
 happeningOf s remote Ready = SaidReady

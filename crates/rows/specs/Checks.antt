@@ -89,8 +89,8 @@ numbersSpent d x e = asksNumber d x e && not (hasRoom (x .last))
 abbrev pub firstOf : Bool → Bool → Bool → ℕ
 firstOf meaningless notHeld spent = cond meaningless 106 (cond notHeld 107 (cond spent 108 0))
 
-abbrev pub answerWanted : Demands → Standing → Event → ℕ
-answerWanted d x e = firstOf (d .meaningless x e) (namesNotHeld (x .state) e) (numbersSpent d x e)
+abbrev pub answerNumberWanted : Demands → Standing → Event → ℕ
+answerNumberWanted d x e = firstOf (d .meaningless x e) (namesNotHeld (x .state) e) (numbersSpent d x e)
 
 abbrev pub rejections : List ReroutingCause → List Signal
 rejections [] = []

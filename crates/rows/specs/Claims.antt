@@ -16,7 +16,7 @@ use Rattle.signal.specs.declared.Switchover.{Switchover}
 use Rattle.events.specs.declared.Event.{Event}
 use Rattle.events.specs.declared.Event.the-variants.{Connect, Expiry, FromDomain, FromParty, NoPath, PathFound, Ready, Setup, Trigger}
 use Rattle.rows.specs.Cases.{AsksClearing, AsksImmediate, Connected, DomainReleased, Expired, FoundNone, FoundPath, NamesIncumbent}
-use Rattle.rows.specs.Cases.{NamesOther, PartyReleased, SaidReady, SetUp, Standing, Triggered, askedOf, caseOf, classOf, hasRoom}
+use Rattle.rows.specs.Cases.{NamesOther, PartyReleased, SaidReady, SetUp, Standing, Triggered, askingOf, caseOf, classOf, hasRoom}
 use Rattle.rows.specs.Cases.{roleOf}
 use Rattle.rows.specs.Checks.{holds, isItsIncumbent}
 use Rattle.rows.specs.Effects.{said}
@@ -33,9 +33,9 @@ pub record ClassExactly : Type 0 where
   pub complete : (k : ReroutingCause) → (classOf (WithCause k) ≡ CameComplete) ↔ (k .number ≡ 4)
 
 -- 01, "The trace", and 5.2: code 1 asks to switch when the call is cleared, code 0 at once; every other code is another switchover.
-pub record AskedExactly : Type 0 where
-  pub clearing : (s : Switchover) → (askedOf s ≡ AsksClearing) ↔ (s .code ≡ 1)
-  pub immediate : (s : Switchover) → (askedOf s ≡ AsksImmediate) ↔ (s .code ≡ 0)
+pub record AskingExactly : Type 0 where
+  pub clearing : (s : Switchover) → (askingOf s ≡ AsksClearing) ↔ (s .code ≡ 1)
+  pub immediate : (s : Switchover) → (askingOf s ≡ AsksImmediate) ↔ (s .code ≡ 0)
 
 -- 01, 107: a connection is the incumbent, or is not held, or else is the rerouting one. A number held twice is the incumbent (decision 26).
 pub record RoleExactly : Type 0 where
@@ -57,7 +57,7 @@ pub record CaseHandsOn (x : Standing) : Type 0 where
   pub path : caseOf x PathFound .happening ≡ FoundPath
   pub noPath : caseOf x NoPath .happening ≡ FoundNone
   pub connect : (c : ℕ) (agreed : Bool) → caseOf x (Connect c agreed) .happening ≡ Connected (roleOf (x .state) c) agreed
-  pub setup : (code : Switchover) (number : ℕ) → caseOf x (Setup code number) .happening ≡ SetUp (askedOf code) (isLate number (x .remote))
+  pub setup : (code : Switchover) (number : ℕ) → caseOf x (Setup code number) .happening ≡ SetUp (askingOf code) (isLate number (x .remote))
   pub fromParty : (got : ReceivedCause) → caseOf x (FromParty got) .happening ≡ PartyReleased (classOf got)
   pub fromDomain : (c : ℕ) (got : ReceivedCause) (crankback : Crankback) →
       caseOf x (FromDomain c got crankback) .happening ≡ DomainReleased (roleOf (x .state) c) (classOf got) crankback

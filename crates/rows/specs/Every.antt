@@ -5,7 +5,7 @@ use Rattle.signal.specs.declared.Crankback.{Crankback}
 use Rattle.signal.specs.declared.Crankback.the-variants.{AlternateFound, NoAlternate, NoCrankback}
 use Rattle.signal.specs.declared.Soft.{Soft}
 use Rattle.signal.specs.declared.Soft.the-variants.{Asymmetric, NoSoft, Symmetric}
-use Rattle.rows.specs.Cases.{Asked, AsksClearing, AsksImmediate, AsksOther, Case, Connected, DomainReleased, Expired, FoundNone}
+use Rattle.rows.specs.Cases.{Asking, AsksClearing, AsksImmediate, AsksOther, Case, Connected, DomainReleased, Expired, FoundNone}
 use Rattle.rows.specs.Cases.{FoundPath, Happening, NamesIncumbent, NamesOther, NamesRerouting, PartyReleased, Role, SaidReady}
 use Rattle.rows.specs.Cases.{SetUp, Triggered}
 use Rattle.rows.specs.States.{Phase}
@@ -35,11 +35,11 @@ overClass f = f CameNone ∷ f CameOutside ∷ f CameComplete ∷ f CameOther �
 abbrev pub everyClass : (Class → Bool) → Bool
 everyClass f = conj (overClass f)
 
-abbrev pub overAsked : (Asked → Bool) → List Bool
-overAsked f = f AsksImmediate ∷ f AsksClearing ∷ f AsksOther ∷ []
+abbrev pub overAsking : (Asking → Bool) → List Bool
+overAsking f = f AsksImmediate ∷ f AsksClearing ∷ f AsksOther ∷ []
 
-abbrev pub everyAsked : (Asked → Bool) → Bool
-everyAsked f = conj (overAsked f)
+abbrev pub everyAsking : (Asking → Bool) → Bool
+everyAsking f = conj (overAsking f)
 
 abbrev pub overSoft : (Soft → Bool) → List Bool
 overSoft f = f NoSoft ∷ f Asymmetric ∷ f Symmetric ∷ []
@@ -81,7 +81,7 @@ everyHappening OnTrigger f = f Triggered
 everyHappening OnPathFound f = f FoundPath
 everyHappening OnNoPath f = f FoundNone
 everyHappening OnConnect f = everyRole (λ role. everyBool (λ agreed. f (Connected role agreed)))
-everyHappening OnSetup f = everyAsked (λ asked. everyBool (λ late. f (SetUp asked late)))
+everyHappening OnSetup f = everyAsking (λ asked. everyBool (λ late. f (SetUp asked late)))
 everyHappening OnPartyRelease f = everyClass (λ class. f (PartyReleased class))
 everyHappening OnDomainRelease f =
     everyRole (λ role. everyClass (λ class. everyCrankback (λ crankback. f (DomainReleased role class crankback))))

@@ -8,7 +8,7 @@ use Rattle.signal.specs.declared.Answer.{Answer}
 use Rattle.signal.specs.declared.Answer.the-variants.{Done, NoMeaning, NotHeld, NumbersSpent}
 use Rattle.signal.specs.declared.CauseCode.{CauseCode}
 use Rattle.signal.specs.declared.CauseCode.the-variants.{CallRejected, Section66}
-use Rattle.rows.specs.Cases.{Asked, Case, Connected, DomainReleased, Expired, FoundNone, FoundPath, Happening, NamesIncumbent}
+use Rattle.rows.specs.Cases.{Asking, Case, Connected, DomainReleased, Expired, FoundNone, FoundPath, Happening, NamesIncumbent}
 use Rattle.rows.specs.Cases.{NamesOther, NamesRerouting, PartyReleased, Role, SaidReady, SetUp, Triggered}
 use Rattle.rows.specs.Effects.{givesNew}
 use Rattle.rows.specs.Every.{conj}
@@ -264,7 +264,7 @@ isLawful c rule = conj (laws c rule)
 -- Cause code #21; and how many signals an event sends at most
 pub record Wants : Type 0 where
   pub meaningless : Case → Bool
-  pub rejected : Phase → Asked → Bool → List Saying
+  pub rejected : Phase → Asking → Bool → List Saying
   pub retired21 : Case → Bool
   pub dropped21 : Case → Bool
   pub most : ℕ
@@ -335,15 +335,15 @@ storesIn w c SaidReady = false
 storesIn w c Expired = false
 
 -- a saying that is a number
-abbrev pub isNumber : Saying → Bool
-isNumber SaysNothing = false
-isNumber Says1 = true
-isNumber Says2 = true
-isNumber Says4 = true
-isNumber Says5 = true
-isNumber Says6 = true
-isNumber Says8 = true
-isNumber SaysAsCame = false
+abbrev pub saysNumber : Saying → Bool
+saysNumber SaysNothing = false
+saysNumber Says1 = true
+saysNumber Says2 = true
+saysNumber Says4 = true
+saysNumber Says5 = true
+saysNumber Says6 = true
+saysNumber Says8 = true
+saysNumber SaysAsCame = false
 
 -- the closing is that rejection, with a number and Cause code 6.6, exactly where there is one
 abbrev pub rejectsWith : List Saying → Closing → Bool
@@ -354,7 +354,7 @@ rejectsWith [] (Rejects say code) = false
 rejectsWith (wanted ∷ more) NoClosing = false
 rejectsWith (wanted ∷ more) (SendsSetup slot) = false
 rejectsWith (wanted ∷ more) (SendsConnect slot) = false
-rejectsWith (wanted ∷ more) (Rejects say code) = sameSaying say wanted && (sameCode code Section66 && (isEmpty more && isNumber wanted))
+rejectsWith (wanted ∷ more) (Rejects say code) = sameSaying say wanted && (sameCode code Section66 && (isEmpty more && saysNumber wanted))
 
 -- a rejected setup is one for a call, is answered 0, leaves the call as it is, and sends that rejection alone
 abbrev pub leftAlone : Case → Rule → List Bool

@@ -12,10 +12,10 @@ use Rattle.signal.specs.declared.Kind.the-variants.{ConnectRequest, IncumbentRe
 use Rattle.signal.specs.declared.Kind.the-variants.{Switch, TimerStart, TimerStop}
 use Rattle.signal.specs.declared.Signal.{Signal}
 use Rattle.signal.specs.declared.Switchover.{Switchover}
-use Rattle.events.specs.Events.{isExpiry, numberIn, receivedIn, reported}
+use Rattle.events.specs.Events.{isExpiry, numberBrought, receivedIn, reported}
 use Rattle.events.specs.declared.Event.{Event}
-use Rattle.rows.specs.Cases.{Standing, askedOf, caseOf, hasRoom}
-use Rattle.rows.specs.Checks.{AllAre, AllIncumbent, Demands, Nones, answerWanted, code21Wanted, partyWanted, rejectionWanted}
+use Rattle.rows.specs.Cases.{Standing, askingOf, caseOf, hasRoom}
+use Rattle.rows.specs.Checks.{AllAre, AllIncumbent, Demands, Nones, answerNumberWanted, code21Wanted, partyWanted, rejectionWanted}
 use Rattle.rows.specs.Checks.{startsWanted, stopsWanted, storedWanted}
 use Rattle.rows.specs.Effects.{Node, causesOf, partyKind}
 use Rattle.rows.specs.Laws.{Wants}
@@ -29,7 +29,7 @@ givenBy x f = cond (f .gives) ((x .last + 1) ∷ []) []
 
 -- the incarnation number that it stores
 abbrev pub storedBy : Event → Effect → List ℕ
-storedBy e f = cond (f .stores) (numberIn e ∷ []) []
+storedBy e f = cond (f .stores) (numberBrought e ∷ []) []
 
 -- the connections whose release was received and not refused
 abbrev pub endedGot : Event → Effect → List ℕ
@@ -81,7 +81,7 @@ pub record Left (x : Standing) (f : Effect) (r : Signal) : Type 0 where
 
 -- what an event does that the documents of an end ask for
 pub record Obeys (d : Demands) (x : Standing) (e : Event) (f : Effect) : Type 0 where
-  pub answered : answerNumber (f .answer) ≡ answerWanted d x e
+  pub answered : answerNumber (f .answer) ≡ answerNumberWanted d x e
   pub stored : storedBy e f ≡ storedWanted d x e
   pub rejected : ofKind Rejection (f .signals) ≡ rejectionWanted d x e
   pub rejects : (r : Signal) → rejectionWanted d x e ≡ r ∷ [] → Left x f r
@@ -92,7 +92,7 @@ pub record Obeys (d : Demands) (x : Standing) (e : Event) (f : Effect) : Type 0 
 pub record Agrees (w : Wants) (d : Demands) : Type 0 where
   pub meaningless : (x : Standing) (e : Event) → w .meaningless (caseOf x e) ≡ d .meaningless x e
   pub rejected : (x : Standing) (code : Switchover) (number : ℕ) →
-      causesOf (w .rejected (phaseOf (x .state)) (askedOf code) (isLate number (x .remote))) ≡ d .rejected x code number
+      causesOf (w .rejected (phaseOf (x .state)) (askingOf code) (isLate number (x .remote))) ≡ d .rejected x code number
   pub retired21 : (x : Standing) (e : Event) → w .retired21 (caseOf x e) ≡ d .retired21 x e
   pub dropped21 : (x : Standing) (e : Event) → w .dropped21 (caseOf x e) ≡ d .dropped21 x e
   pub most : w .most ≡ d .most

@@ -11,8 +11,8 @@ use borrow.Author.Tests.{eqb-true, eqb-false, le-ltb, lt-ltb}
 use Rattle.signal.specs.Counting.{one, count}
 use Rattle.signal.proofs.Counting.{count-append, one-self, one-other}
 use Rattle.lent.specs.Keyed.{onRecord, replacedFor}
-use Rattle.runs.specs.Run.{End, Does, opens, meets, Asked, Reply, Control, after, emptyTable, callOf}
-use Rattle.runs.specs.Account.{Log, nothing, oneTo, Settled, AllSettled, givenBy, endedBy, askedBy, sentIn, entered, noted, logged, Account, Opened, Lives, Met, Lawful}
+use Rattle.runs.specs.Run.{End, Does, opens, meets, KeyedRequest, Reply, Table, Control, tableAfter, emptyTable, callByKey}
+use Rattle.runs.specs.Account.{Log, emptyLog, oneTo, Settled, AllSettled, givenBetween, endedBy, askedBy, sentIn, entered, noted, logged, Account, Opened, Lives, Met, LawfulControl}
 use Rattle.runs.specs.Account as claim
 use Rattle.runs.proofs.Keyed.{has-key, is-none, none-on, same-on, same-of, new-of, Once, once-none, once-same, once-new, once-own, gone}
 
@@ -40,15 +40,12 @@ within (suc n) x l m = count-append x (oneTo n) (suc n ∷ []) ∙ by-test (eqb 
         let never : one x (suc n) ≡ 0 = one-other x (suc n) apart in
         omega (arith, rest (omega arith), never)
 
-module _ (E : End) (C : Control E) (L : Lawful E C) where
-  abbrev Table : Type 0
-  Table = List (E .Record)
-
-  abbrev on : ℕ → Table → Bool
+module _ (E : End) (C : Control E) (L : LawfulControl E C) where
+  abbrev on : ℕ → Table E → Bool
   on k ys = onRecord (E .key) k ys
 
-  abbrev of : ℕ → Table → E .Record
-  of k ys = callOf E k ys
+  abbrev of : ℕ → Table E → E .Record
+  of k ys = callByKey E k ys
 
   -- what holds from request to request, of one key: of its record, whether it is on record, and its log
   record Keeps (c : E .Record) (live : Bool) (l : Log) : Type 0 where
@@ -59,11 +56,11 @@ module _ (E : End) (C : Control E) (L : Lawful E C) where
     pub before : AllSettled (l .past)
 
   -- and that the key stands at most once
-  abbrev Kept : ℕ → Table → Log → Type 0
+  abbrev Kept : ℕ → Table E → Log → Type 0
   Kept k ys l = Keeps (of k ys) (on k ys) l × Once (E .key) (E .empty) k ys
 
   -- the account, from that
-  on-call : (k : ℕ) (ys : Table) → (E .key (of k ys) ≡ 0 → ⊥) → on k ys ≡ true
+  on-call : (k : ℕ) (ys : Table E) → (E .key (of k ys) ≡ 0 → ⊥) → on k ys ≡ true
   on-call k ys named = by-test (on k ys) refl
     where
       by-test : (b : Bool) → on k ys ≡ b → on k ys ≡ true
@@ -71,10 +68,10 @@ module _ (E : End) (C : Control E) (L : Lawful E C) where
       by-test false e = absurd (named (ap (E .key) (is-none (E .key) (E .empty) k ys e) ∙ L .unused))
 
   -- where a key is not on record, nothing is held
-  none-held : (k : ℕ) (ys : Table) → on k ys ≡ false → (x : ℕ) → count x (E .held (of k ys)) ≡ 0
+  none-held : (k : ℕ) (ys : Table E) → on k ys ≡ false → (x : ℕ) → count x (E .held (of k ys)) ≡ 0
   none-held k ys e x = ap (λ c. count x (E .held c)) (is-none (E .key) (E .empty) k ys e) ∙ ap (count x) (L .nothing-held)
 
-  off-call : (k : ℕ) (ys : Table) → (k ≡ 0 → ⊥) → E .key (of k ys) ≡ 0 → on k ys ≡ false
+  off-call : (k : ℕ) (ys : Table E) → (k ≡ 0 → ⊥) → E .key (of k ys) ≡ 0 → on k ys ≡ false
   off-call k ys named nought = by-test (on k ys) refl
     where
       by-test : (b : Bool) → on k ys ≡ b → on k ys ≡ false
@@ -88,7 +85,7 @@ module _ (E : End) (C : Control E) (L : Lawful E C) where
   either-way zero n e = inr (refl, omega arith)
   either-way (suc m) n e = inl (omega arith, omega arith)
 
-  account : (k : ℕ) (ys : Table) (l : Log) → (k ≡ 0 → ⊥) → Keeps (of k ys) (on k ys) l → Account E (of k ys) l
+  account : (k : ℕ) (ys : Table E) (l : Log) → (k ≡ 0 → ⊥) → Keeps (of k ys) (on k ys) l → Account E (of k ys) l
   account k ys l named h =
       record {
         numbers = h .numbers;
@@ -110,7 +107,7 @@ module _ (E : End) (C : Control E) (L : Lawful E C) where
   none-asked : (x : ℕ) (r : Reply E) → r .signals ≡ E .silent → count x (E .requested (r .signals)) ≡ 0
   none-asked x r quiet = ap (λ s. count x (E .requested s)) quiet ∙ ap (count x) (L .nothing-requested)
 
-  refused-kept : (k : ℕ) (ys : Table) (a : Asked E) (l : Log) → (C ys a .answer ≡ 0 → ⊥) → Kept k ys l → Kept k (C ys a .table) (sentIn E (C ys a) l)
+  refused-kept : (k : ℕ) (ys : Table E) (a : KeyedRequest E) (l : Log) → (C ys a .answer ≡ 0 → ⊥) → Kept k ys l → Kept k (C ys a .table) (sentIn E (C ys a) l)
   refused-kept k ys a l refused h = subst (λ zs. Kept k zs (sentIn E (C ys a) l)) (sym (quiet .0)) (record { numbers = h .0 .numbers; recorded = h .0 .recorded; counted = counted′; asked = asked′; before = h .0 .before }, h .1)
     where
       quiet : (C ys a .table ≡ ys) × (C ys a .signals ≡ E .silent)
@@ -123,7 +120,7 @@ module _ (E : End) (C : Control E) (L : Lawful E C) where
       asked′ x a′ = omega (arith, h .0 .asked x a′, count-append x (l .requested) (askedBy E (C ys a)), none-asked x (C ys a) (quiet .1))
 
   -- ---- an opening
-  opening-own : (k : ℕ) (ys : Table) (r : Reply E) (l : Log) (w : E .Wanted) → Opened E ys k r → Kept k ys l → Kept k (r .table) (entered E (opens w) true (of k ys) (of k (r .table)) r l)
+  opening-own : (k : ℕ) (ys : Table E) (r : Reply E) (l : Log) (w : E .Wanted) → Opened E ys k r → Kept k ys l → Kept k (r .table) (entered E (opens w) true (of k ys) (of k (r .table)) r l)
   opening-own k ys r l w o h = (subst (λ c. Keeps c (on k (r .table)) (entered E (opens w) true (of k ys) c r l)) (sym now) begun, subst (Once (E .key) (E .empty) k) (sym (o .stored)) (once-new (E .key) (E .empty) k 0 (o .call) ys (o .new)))
     where
       now : of k (r .table) ≡ o .call
@@ -152,7 +149,7 @@ module _ (E : End) (C : Control E) (L : Lawful E C) where
   emptied-other k d named emptied s = named (sym s ∙ (ap (E .key) emptied ∙ L .unused))
 
   -- the call's record after it
-  now-is : (k : ℕ) (ys : Table) (e : E .Event) (r : Reply E) → (k ≡ 0 → ⊥) → Once (E .key) (E .empty) k ys → (m : Met E ys k e r) → of k (r .table) ≡ m .call
+  now-is : (k : ℕ) (ys : Table E) (e : E .Event) (r : Reply E) → (k ≡ 0 → ⊥) → Once (E .key) (E .empty) k ys → (m : Met E ys k e r) → of k (r .table) ≡ m .call
   now-is k ys e r named single m = ap (of k) (m .stored) ∙ by-life (m .lives)
     where
       by-life : Lives E k (of k ys) (m .call) → of k (replacedFor (E .key) k (m .call) ys) ≡ m .call
@@ -162,17 +159,17 @@ module _ (E : End) (C : Control E) (L : Lawful E C) where
           ∙ sym emptied
 
   -- whether the key is on record after it: not where the record was emptied
-  off-record : (k : ℕ) (ys : Table) (e : E .Event) (r : Reply E) → (k ≡ 0 → ⊥) → Once (E .key) (E .empty) k ys → (m : Met E ys k e r) → m .call ≡ E .empty → on k (r .table) ≡ false
+  off-record : (k : ℕ) (ys : Table E) (e : E .Event) (r : Reply E) → (k ≡ 0 → ⊥) → Once (E .key) (E .empty) k ys → (m : Met E ys k e r) → m .call ≡ E .empty → on k (r .table) ≡ false
   off-record k ys e r named single m emptied = ap (on k) (m .stored) ∙ gone (E .key) (E .empty) k (m .call) ys single (emptied-other k (m .call) named emptied)
 
   -- the numbers given, where none and where one is added
-  none-added : (c d : E .Record) (g : List ℕ) → E .last d ≤ E .last c → g ++ givenBy E c d ≡ g
+  none-added : (c d : E .Record) (g : List ℕ) → E .last d ≤ E .last c → g ++ givenBetween E c d ≡ g
   none-added c d g h = rw (le-ltb (E .last c) (E .last d) h) (append-nil g)
 
-  one-added : (c d : E .Record) (g : List ℕ) → E .last d ≡ suc (E .last c) → g ++ givenBy E c d ≡ g ++ (suc (E .last c) ∷ [])
+  one-added : (c d : E .Record) (g : List ℕ) → E .last d ≡ suc (E .last c) → g ++ givenBetween E c d ≡ g ++ (suc (E .last c) ∷ [])
   one-added c d g h = rw (lt-ltb (E .last c) (E .last d) (omega arith), h)
 
-  event-own : (k : ℕ) (ys : Table) (e : E .Event) (r : Reply E) (l : Log) → (k ≡ 0 → ⊥) → Met E ys k e r → Kept k ys l → Kept k (r .table) (entered E (meets e) true (of k ys) (of k (r .table)) r l)
+  event-own : (k : ℕ) (ys : Table E) (e : E .Event) (r : Reply E) (l : Log) → (k ≡ 0 → ⊥) → Met E ys k e r → Kept k ys l → Kept k (r .table) (entered E (meets e) true (of k ys) (of k (r .table)) r l)
   event-own k ys e r l named m h = (
     subst (λ c. Keeps c (on k (r .table)) (entered E (meets e) true (of k ys) c r l)) (sym (now-is k ys e r named (h .1) m))
         record { numbers = numbers′ (m .lives); recorded = recorded′ (m .lives); counted = counted′; asked = asked′; before = h .0 .before },
@@ -183,7 +180,7 @@ module _ (E : End) (C : Control E) (L : Lawful E C) where
       before = h .0 .recorded (m .known)
 
       given′ : List ℕ
-      given′ = l .given ++ givenBy E (of k ys) (m .call)
+      given′ = l .given ++ givenBetween E (of k ys) (m .call)
 
       unchanged : E .last (m .call) ≤ E .last (of k ys) → given′ ≡ oneTo (length given′)
       unchanged h′ = let same = none-added (of k ys) (m .call) (l .given) h′ in same ∙ (h .0 .numbers ∙ ap (λ g. oneTo (length g)) (sym same))
@@ -203,18 +200,18 @@ module _ (E : End) (C : Control E) (L : Lawful E C) where
       recorded′ (inr emptied) t = absurd (true≢false (sym t ∙ off-record k ys e r named (h .1) m emptied))
 
       counted′ : (x : ℕ) → count x given′ ≡ count x (l .ended ++ endedBy E e r) + count x (E .held (m .call))
-      counted′ x = omega (arith, count-append x (l .given) (givenBy E (of k ys) (m .call)), count-append x (l .ended) (endedBy E e r), h .0 .counted x, m .balances x)
+      counted′ x = omega (arith, count-append x (l .given) (givenBetween E (of k ys) (m .call)), count-append x (l .ended) (endedBy E e r), h .0 .counted x, m .balances x)
 
       asked′ : (x : ℕ) → 1 ≤ x → count x (l .requested ++ askedBy E r) ≤ count x given′
-      asked′ x a = omega (arith, count-append x (l .given) (givenBy E (of k ys) (m .call)), count-append x (l .requested) (askedBy E r), h .0 .asked x a, m .asks x a)
+      asked′ x a = omega (arith, count-append x (l .given) (givenBetween E (of k ys) (m .call)), count-append x (l .requested) (askedBy E r), h .0 .asked x a, m .asks x a)
 
   -- ---- a request for another key leaves this one
-  record Same (k : ℕ) (ys zs : Table) : Type 0 where
+  record Same (k : ℕ) (ys zs : Table E) : Type 0 where
     pub on-same : on k zs ≡ on k ys
     pub of-same : of k zs ≡ of k ys
     pub single : Once (E .key) (E .empty) k ys → Once (E .key) (E .empty) k zs
 
-  replaced-same : (k j : ℕ) (d : E .Record) (ys zs : Table) → zs ≡ replacedFor (E .key) j d ys → (j ≡ k → ⊥) → (E .key d ≡ k → ⊥) → Same k ys zs
+  replaced-same : (k j : ℕ) (d : E .Record) (ys zs : Table E) → zs ≡ replacedFor (E .key) j d ys → (j ≡ k → ⊥) → (E .key d ≡ k → ⊥) → Same k ys zs
   replaced-same k j d ys zs stored other new =
       record {
         on-same = ap (on k) stored ∙ same-on (E .key) (E .empty) k j d ys other new;
@@ -222,7 +219,7 @@ module _ (E : End) (C : Control E) (L : Lawful E C) where
         single = λ h. subst (Once (E .key) (E .empty) k) (sym stored) (once-same (E .key) (E .empty) k j d ys new h);
       }
 
-  other-same : (k j : ℕ) (ys : Table) (does : Does (E .Wanted) (E .Event)) → (k ≡ 0 → ⊥) → (j ≡ k → ⊥) → C ys (record { key = j; does = does }) .answer ≡ 0 →
+  other-same : (k j : ℕ) (ys : Table E) (does : Does (E .Wanted) (E .Event)) → (k ≡ 0 → ⊥) → (j ≡ k → ⊥) → C ys (record { key = j; does = does }) .answer ≡ 0 →
       Same k ys (C ys (record { key = j; does = does }) .table)
   other-same k j ys (opens w) named other done =
       let o = L .opened ys j w done in replaced-same k 0 (o .call) ys _ (o .stored) (λ s. named (sym s)) (λ s. other (sym (o .own) ∙ s))
@@ -233,11 +230,11 @@ module _ (E : End) (C : Control E) (L : Lawful E C) where
       new (inl lives) s = other (sym (lives .0) ∙ s)
       new (inr emptied) s = named (sym s ∙ (ap (E .key) emptied ∙ L .unused))
 
-  kept-same : (k : ℕ) (ys zs : Table) (l : Log) → Same k ys zs → Kept k ys l → Kept k zs l
+  kept-same : (k : ℕ) (ys zs : Table E) (l : Log) → Same k ys zs → Kept k ys l → Kept k zs l
   kept-same k ys zs l same h = (subst (λ b. Keeps (of k zs) b l) (sym (same .on-same)) (subst (λ c. Keeps c (on k ys) l) (sym (same .of-same)) (h .0)), same .single (h .1))
 
   -- ---- a request for this key, done or refused
-  own-done : (k : ℕ) (ys : Table) (does : Does (E .Wanted) (E .Event)) (l : Log) → (k ≡ 0 → ⊥) → C ys (record { key = k; does = does }) .answer ≡ 0 → Kept k ys l →
+  own-done : (k : ℕ) (ys : Table E) (does : Does (E .Wanted) (E .Event)) (l : Log) → (k ≡ 0 → ⊥) → C ys (record { key = k; does = does }) .answer ≡ 0 → Kept k ys l →
       Kept k (C ys (record { key = k; does = does }) .table)
       (entered E does true (of k ys) (of k (C ys (record { key = k; does = does }) .table)) (C ys (record { key = k; does = does })) l)
   own-done k ys (opens w) l named done h = opening-own k ys _ l w (L .opened ys k w done) h
@@ -248,11 +245,11 @@ module _ (E : End) (C : Control E) (L : Lawful E C) where
   own-refused (meets e) before now r l = refl
 
   -- ---- any request, and a run
-  step : (k j : ℕ) (ys : Table) (does : Does (E .Wanted) (E .Event)) (l : Log) → (k ≡ 0 → ⊥) → Kept k ys l →
+  step : (k j : ℕ) (ys : Table E) (does : Does (E .Wanted) (E .Event)) (l : Log) → (k ≡ 0 → ⊥) → Kept k ys l →
       Kept k (C ys (record { key = j; does = does }) .table) (noted E k ys (record { key = j; does = does }) (C ys (record { key = j; does = does })) l)
   step k j ys does l named h = by-tests (eqb j k) (eqb (r .answer) 0) refl refl
     where
-      a : Asked E
+      a : KeyedRequest E
       a = record { key = j; does = does }
 
       r : Reply E
@@ -271,7 +268,7 @@ module _ (E : End) (C : Control E) (L : Lawful E C) where
       by-tests false true own done = kept-same k ys (r .table) l (other-same k j ys does named (eqb-false j k own) (eqb-true (r .answer) 0 done)) h
       by-tests false false own done = subst (λ zs. Kept k zs l) (sym (L .refused ys a (eqb-false (r .answer) 0 done) .0)) h
 
-  along : (k : ℕ) (ys : Table) (requests : List (Asked E)) (l : Log) → (k ≡ 0 → ⊥) → Kept k ys l → Kept k (after E C ys requests) (logged E C k ys l requests)
+  along : (k : ℕ) (ys : Table E) (requests : List (KeyedRequest E)) (l : Log) → (k ≡ 0 → ⊥) → Kept k ys l → Kept k (tableAfter E C ys requests) (logged E C k ys l requests)
   along k ys [] l named h = h
   along k ys (a ∷ more) l named h = along k (C ys a .table) more (noted E k ys a (C ys a) l) named (step k (a .key) ys (a .does) l named h)
 
@@ -279,7 +276,7 @@ module _ (E : End) (C : Control E) (L : Lawful E C) where
   none-first : (k n : ℕ) → (k ≡ 0 → ⊥) → on k (emptyTable E n) ≡ false
   none-first k n named = none-on (E .key) (E .empty) k n (λ s. named (sym s ∙ L .unused))
 
-  at-first : (k n : ℕ) → (k ≡ 0 → ⊥) → Kept k (emptyTable E n) nothing
+  at-first : (k n : ℕ) → (k ≡ 0 → ⊥) → Kept k (emptyTable E n) emptyLog
   at-first k n named = (
     record {
       numbers = refl;
@@ -293,4 +290,4 @@ module _ (E : End) (C : Control E) (L : Lawful E C) where
 
 pub laws-keep-account : (E : End) → claim.LawsKeepAccount E
 laws-keep-account E C L n requests k named =
-    account E C L k (after E C (emptyTable E n) requests) _ named (along E C L k (emptyTable E n) requests nothing named (at-first E C L k n named) .0)
+    account E C L k (tableAfter E C (emptyTable E n) requests) _ named (along E C L k (emptyTable E n) requests emptyLog named (at-first E C L k n named) .0)

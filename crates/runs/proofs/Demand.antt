@@ -10,11 +10,11 @@ use lib.ListN.{length}
 use borrow.Author.Tests.{eqb-true, eqb-false, eq-eqb, leb-true, leb-false}
 use Rattle.signal.specs.Counting.{count}
 use Rattle.signal.proofs.Counting.{count-append}
-use Rattle.runs.specs.Run.{End, Does, opens, meets, Asked, Reply, Control, after, emptyTable, callOf}
-use Rattle.runs.specs.Woven.{Item, own, inserted, itself, woven, AtInsertions}
+use Rattle.runs.specs.Run.{End, Does, opens, meets, KeyedRequest, Reply, Table, Control, tableAfter, emptyTable, callByKey}
+use Rattle.runs.specs.Woven.{Strand, own, inserted, itself, woven, AtInsertions}
 use Rattle.runs.specs.Late.{Numbering, SetupFor, LateOrUnsupported, Rejected}
-use Rattle.runs.specs.Account.{Log, nothing, oneTo, givenBy, endedBy, askedBy, entered, noted, logged, Account, Lawful}
-use Rattle.runs.specs.Demand.{AccountAt, LateInserted, Upheld, TurnsAway, DemandThree}
+use Rattle.runs.specs.Account.{Log, emptyLog, oneTo, givenBetween, endedBy, askedBy, entered, noted, logged, Account, LawfulControl}
+use Rattle.runs.specs.Demand.{AccountAt, LateInserted, Upheld, TurnsAway, KeepsDemandThree}
 use Rattle.runs.specs.Demand as claim
 use Rattle.runs.proofs.Keyed.{none-on}
 use Rattle.runs.proofs.Late.{turned-away-is-harmless}
@@ -33,54 +33,54 @@ module _ (E : End) (N : Numbering E) where
       by-kind (inr other) = none (other .1 .1 .0)
 
   pub nothing-inserted-where-refused : claim.NothingInsertedWhereRefused E N
-  nothing-inserted-where-refused C unused silent n refuses items at = along (emptyTable E n) items refl at
+  nothing-inserted-where-refused C unused silent n refuses strands at = along (emptyTable E n) strands refl at
     where
-      Late : List (E .Record) → List (Item E) → Type 0
-      Late ys items = AtInsertions E C (λ zs a r. LateOrUnsupported E N zs a) ys items
+      Late : Table E → List (Strand E) → Type 0
+      Late ys strands = AtInsertions E C (λ zs a r. LateOrUnsupported E N zs a) ys strands
 
-      still : (ys : List (E .Record)) (a : Asked E) → ys ≡ emptyTable E n → C ys a .table ≡ emptyTable E n
+      still : (ys : Table E) (a : KeyedRequest E) → ys ≡ emptyTable E n → C ys a .table ≡ emptyTable E n
       still ys a is = ap (λ zs. C zs a .table) is ∙ silent (emptyTable E n) a (refuses a) .0
 
-      along : (ys : List (E .Record)) (items : List (Item E)) → ys ≡ emptyTable E n → Late ys items → woven E items ≡ itself E items
+      along : (ys : Table E) (strands : List (Strand E)) → ys ≡ emptyTable E n → Late ys strands → woven E strands ≡ itself E strands
       along ys [] is at = refl
       along ys (own a ∷ more) is at = ap (λ rs. a ∷ rs) (along (C ys a .table) more (still ys a is) at)
       along ys (inserted a ∷ more) is at = absurd (nothing-to-insert unused n a (subst (λ zs. LateOrUnsupported E N zs a) is (at .0)))
 
 -- ---- any control with the laws
-module _ (E : End) (N : Numbering E) (C : Control E) (L : Lawful E C) (T : TurnsAway E N C) where
+module _ (E : End) (N : Numbering E) (C : Control E) (L : LawfulControl E C) (T : TurnsAway E N C) where
   -- the kind of table that a run keeps: fit, or an empty one over which every request is refused
-  abbrev Refuses : List (E .Record) → Type 0
-  Refuses ys = ((n : ℕ) × (ys ≡ emptyTable E n)) × ((a : Asked E) → C ys a .answer ≡ 0 → ⊥)
+  abbrev Refuses : Table E → Type 0
+  Refuses ys = ((n : ℕ) × (ys ≡ emptyTable E n)) × ((a : KeyedRequest E) → C ys a .answer ≡ 0 → ⊥)
 
-  abbrev Kind : List (E .Record) → Type 0
+  abbrev Kind : Table E → Type 0
   Kind ys = T .Fit ys ⊎ Refuses ys
 
   at-first : (n : ℕ) → Kind (emptyTable E n)
   at-first n = by-begin (T .begins n)
     where
-      by-begin : T .Fit (emptyTable E n) ⊎ ((a : Asked E) → C (emptyTable E n) a .answer ≡ 0 → ⊥) → Kind (emptyTable E n)
+      by-begin : T .Fit (emptyTable E n) ⊎ ((a : KeyedRequest E) → C (emptyTable E n) a .answer ≡ 0 → ⊥) → Kind (emptyTable E n)
       by-begin (inl fit) = inl fit
       by-begin (inr refuses) = inr ((n, refl), refuses)
 
-  keeps : (ys : List (E .Record)) (a : Asked E) → Kind ys → Kind (C ys a .table)
+  keeps : (ys : Table E) (a : KeyedRequest E) → Kind ys → Kind (C ys a .table)
   keeps ys a (inl fit) = inl (T .stays ys a fit)
   keeps ys a (inr stuck) = inr (subst Refuses (sym (L .refused ys a (stuck .1 a) .0)) stuck)
 
-  rejects : (ys : List (E .Record)) (a : Asked E) → Kind ys → LateOrUnsupported E N ys a → Rejected E N ys a (C ys a)
+  rejects : (ys : Table E) (a : KeyedRequest E) → Kind ys → LateOrUnsupported E N ys a → Rejected E N ys a (C ys a)
   rejects ys a (inl fit) at = T .rejects ys a fit at
   rejects ys a (inr stuck) at =
       absurd (nothing-to-insert E N (L .unused) (stuck .0 .0) a (subst (λ zs. LateOrUnsupported E N zs a) (stuck .0 .1) at))
 
-  upheld : (n : ℕ) (items : List (Item E)) → LateInserted E N C n items → Upheld E N C n items
-  upheld n items at =
+  upheld : (n : ℕ) (strands : List (Strand E)) → LateInserted E N C n strands → Upheld E N C n strands
+  upheld n strands at =
       record {
-        harmless = turned-away-is-harmless E N C Kind (LateOrUnsupported E N) keeps rejects (emptyTable E n) items (at-first n) at;
+        harmless = turned-away-is-harmless E N C Kind (LateOrUnsupported E N) keeps rejects (emptyTable E n) strands (at-first n) at;
         itself = λ before behind cut k named. laws-keep-account E C L n before k named;
         woven = λ before behind cut k named. laws-keep-account E C L n before k named;
       }
 
 pub laws-keep-demand-three : (E : End) (N : Numbering E) → claim.LawsKeepDemandThree E N
-laws-keep-demand-three E N C L T n items at = upheld E N C L T _ items at
+laws-keep-demand-three E N C L T n strands at = upheld E N C L T _ strands at
 
 -- ---- what an account counts: each number as often given as it was ended and is held; and of a call that has ended, as it was ended
 module _ (E : End) (c : E .Record) (l : Log) (h : Account E c l) (x : ℕ) where
@@ -111,36 +111,36 @@ module _ (E : End) (c : E .Record) (l : Log) (h : Account E c l) (x : ℕ) where
 
 -- ---- what demand 3 says of each request of a run
 module _ (E : End) (C : Control E) where
-  -- requests as items, and others behind them
-  abbrev owned : List (Asked E) → List (Item E) → List (Item E)
-  owned [] items = items
-  owned (a ∷ more) items = own a ∷ owned more items
+  -- requests as strands, and others behind them
+  abbrev owned : List (KeyedRequest E) → List (Strand E) → List (Strand E)
+  owned [] strands = strands
+  owned (a ∷ more) strands = own a ∷ owned more strands
 
-  itself-owned : (requests : List (Asked E)) → requests ++ [] ≡ itself E (owned requests [])
+  itself-owned : (requests : List (KeyedRequest E)) → requests ++ [] ≡ itself E (owned requests [])
   itself-owned [] = refl
   itself-owned (a ∷ more) = ap (λ rs. a ∷ rs) (itself-owned more)
 
-  module _ (P : List (E .Record) → Asked E → Reply E → Type 0) where
-    into-owned : (ys : List (E .Record)) (requests : List (Asked E)) (items : List (Item E)) → AtInsertions E C P (after E C ys requests) items → AtInsertions E C P ys (owned requests items)
-    into-owned ys [] items at = at
-    into-owned ys (a ∷ more) items at = into-owned (C ys a .table) more items at
+  module _ (P : Table E → KeyedRequest E → Reply E → Type 0) where
+    into-owned : (ys : Table E) (requests : List (KeyedRequest E)) (strands : List (Strand E)) → AtInsertions E C P (tableAfter E C ys requests) strands → AtInsertions E C P ys (owned requests strands)
+    into-owned ys [] strands at = at
+    into-owned ys (a ∷ more) strands at = into-owned (C ys a .table) more strands at
 
-    out-of-owned : (ys : List (E .Record)) (requests : List (Asked E)) (items : List (Item E)) → AtInsertions E C P ys (owned requests items) → AtInsertions E C P (after E C ys requests) items
-    out-of-owned ys [] items at = at
-    out-of-owned ys (a ∷ more) items at = out-of-owned (C ys a .table) more items at
+    out-of-owned : (ys : Table E) (requests : List (KeyedRequest E)) (strands : List (Strand E)) → AtInsertions E C P ys (owned requests strands) → AtInsertions E C P (tableAfter E C ys requests) strands
+    out-of-owned ys [] strands at = at
+    out-of-owned ys (a ∷ more) strands at = out-of-owned (C ys a .table) more strands at
 
   -- the table and the log after one request more
-  after-more : (ys : List (E .Record)) (before : List (Asked E)) (a : Asked E) → after E C ys (before ++ (a ∷ [])) ≡ C (after E C ys before) a .table
+  after-more : (ys : Table E) (before : List (KeyedRequest E)) (a : KeyedRequest E) → tableAfter E C ys (before ++ (a ∷ [])) ≡ C (tableAfter E C ys before) a .table
   after-more ys [] a = refl
   after-more ys (b ∷ more) a = after-more (C ys b .table) more a
 
-  logged-more : (k : ℕ) (ys : List (E .Record)) (l : Log) (before : List (Asked E)) (a : Asked E) →
-      logged E C k ys l (before ++ (a ∷ [])) ≡ noted E k (after E C ys before) a (C (after E C ys before) a) (logged E C k ys l before)
+  logged-more : (k : ℕ) (ys : Table E) (l : Log) (before : List (KeyedRequest E)) (a : KeyedRequest E) →
+      logged E C k ys l (before ++ (a ∷ [])) ≡ noted E k (tableAfter E C ys before) a (C (tableAfter E C ys before) a) (logged E C k ys l before)
   logged-more k ys l [] a = refl
   logged-more k ys l (b ∷ more) a = logged-more k (C ys b .table) (noted E k ys b (C ys b) l) more a
 
-module _ (E : End) (N : Numbering E) (C : Control E) (D : DemandThree E N C) where
-  account-at : (n : ℕ) (requests : List (Asked E)) (k : ℕ) → (k ≡ 0 → ⊥) → AccountAt E C n requests k
+module _ (E : End) (N : Numbering E) (C : Control E) (D : KeepsDemandThree E N C) where
+  account-at : (n : ℕ) (requests : List (KeyedRequest E)) (k : ℕ) → (k ≡ 0 → ⊥) → AccountAt E C n requests k
   account-at n requests k named =
       D n (owned E C requests []) (into-owned E C (λ ys a r. LateOrUnsupported E N ys a) (emptyTable E n) requests [] tt) .itself requests [] (itself-owned E C requests) k named
 
@@ -151,48 +151,48 @@ module _ (E : End) (N : Numbering E) (C : Control E) (D : DemandThree E N C) whe
       (into-owned E C (λ ys b r. LateOrUnsupported E N ys b) (emptyTable E n) before (inserted a ∷ []) (at, tt)) .harmless .rejected) .0
 
   -- an event that is done: the two accounts, before it and after it
-  module _ (n : ℕ) (before : List (Asked E)) (k : ℕ) (e : E .Event) (named : k ≡ 0 → ⊥) where
-    abbrev a : Asked E
+  module _ (n : ℕ) (before : List (KeyedRequest E)) (k : ℕ) (e : E .Event) (named : k ≡ 0 → ⊥) where
+    abbrev a : KeyedRequest E
     a = record { key = k; does = meets e }
 
-    abbrev ys : List (E .Record)
-    ys = after E C (emptyTable E n) before
+    abbrev ys : Table E
+    ys = tableAfter E C (emptyTable E n) before
 
     abbrev r : Reply E
     r = C ys a
 
     abbrev l : Log
-    l = logged E C k (emptyTable E n) nothing before
+    l = logged E C k (emptyTable E n) emptyLog before
 
     abbrev now : E .Record
-    now = callOf E k (r .table)
+    now = callByKey E k (r .table)
 
     abbrev entry : Log
     entry =
         record {
-          given = l .given ++ givenBy E (callOf E k ys) now;
+          given = l .given ++ givenBetween E (callByKey E k ys) now;
           ended = l .ended ++ endedBy E e r;
           requested = l .requested ++ askedBy E r;
           past = l .past;
         }
 
     module _ (done : r .answer ≡ 0) where
-      logged-is : logged E C k (emptyTable E n) nothing (before ++ (a ∷ [])) ≡ entry
-      logged-is = logged-more E C k (emptyTable E n) nothing before a ∙ rw (eq-eqb k k refl, eq-eqb (r .answer) 0 done)
+      logged-is : logged E C k (emptyTable E n) emptyLog (before ++ (a ∷ [])) ≡ entry
+      logged-is = logged-more E C k (emptyTable E n) emptyLog before a ∙ rw (eq-eqb k k refl, eq-eqb (r .answer) 0 done)
 
       after-it : Account E now entry
       after-it =
           subst (Account E now) logged-is
-          (subst (λ zs. Account E (callOf E k zs) (logged E C k (emptyTable E n) nothing (before ++ (a ∷ [])))) (after-more E C (emptyTable E n) before a)
+          (subst (λ zs. Account E (callByKey E k zs) (logged E C k (emptyTable E n) emptyLog (before ++ (a ∷ [])))) (after-more E C (emptyTable E n) before a)
           (account-at n (before ++ (a ∷ [])) k named))
 
-      balances : (x : ℕ) → count x (E .held (callOf E k ys)) + count x (givenBy E (callOf E k ys) now) ≡ count x (E .held now) + count x (endedBy E e r)
+      balances : (x : ℕ) → count x (E .held (callByKey E k ys)) + count x (givenBetween E (callByKey E k ys) now) ≡ count x (E .held now) + count x (endedBy E e r)
       balances x =
           omega (
             arith,
-            counted E (callOf E k ys) l (account-at n before k named) x,
+            counted E (callByKey E k ys) l (account-at n before k named) x,
             counted E now entry after-it x,
-            count-append x (l .given) (givenBy E (callOf E k ys) now),
+            count-append x (l .given) (givenBetween E (callByKey E k ys) now),
             count-append x (l .ended) (endedBy E e r),
           )
 
@@ -210,23 +210,23 @@ module _ (E : End) (N : Numbering E) (C : Control E) (D : DemandThree E N C) whe
         arith,
         account-at n (before ++ (a ∷ [])) (a .key) named .asked x positive,
         subst (λ m. count x (E .requested (r .signals)) ≤ count x (m .requested)) (sym entry)
-            (asked-in (a .does) (eqb (r .answer) 0) (callOf E (a .key) ys) (callOf E (a .key) (r .table)) r (logged E C (a .key) (emptyTable E n) nothing before) x),
+            (asked-in (a .does) (eqb (r .answer) 0) (callByKey E (a .key) ys) (callByKey E (a .key) (r .table)) r (logged E C (a .key) (emptyTable E n) emptyLog before) x),
       )
     where
-      ys : List (E .Record)
-      ys = after E C (emptyTable E n) before
+      ys : Table E
+      ys = tableAfter E C (emptyTable E n) before
 
       r : Reply E
       r = C ys a
 
-      entry : logged E C (a .key) (emptyTable E n) nothing (before ++ (a ∷ [])) ≡
-          entered E (a .does) (eqb (r .answer) 0) (callOf E (a .key) ys) (callOf E (a .key) (r .table)) r (logged E C (a .key) (emptyTable E n) nothing before)
-      entry = logged-more E C (a .key) (emptyTable E n) nothing before a ∙ rw (eq-eqb (a .key) (a .key) refl)
+      entry : logged E C (a .key) (emptyTable E n) emptyLog (before ++ (a ∷ [])) ≡
+          entered E (a .does) (eqb (r .answer) 0) (callByKey E (a .key) ys) (callByKey E (a .key) (r .table)) r (logged E C (a .key) (emptyTable E n) emptyLog before)
+      entry = logged-more E C (a .key) (emptyTable E n) emptyLog before a ∙ rw (eq-eqb (a .key) (a .key) refl)
 
   one-kind : claim.OneKindIsHarmless E N C
-  one-kind Kind of n items at = D n items (each (emptyTable E n) items at) .harmless
+  one-kind Kind of n strands at = D n strands (each (emptyTable E n) strands at) .harmless
     where
-      each : (ys : List (E .Record)) (items : List (Item E)) → AtInsertions E C (λ zs a r. Kind zs a) ys items → AtInsertions E C (λ zs a r. LateOrUnsupported E N zs a) ys items
+      each : (ys : Table E) (strands : List (Strand E)) → AtInsertions E C (λ zs a r. Kind zs a) ys strands → AtInsertions E C (λ zs a r. LateOrUnsupported E N zs a) ys strands
       each ys [] at = tt
       each ys (own a ∷ more) at = each (C ys a .table) more at
       each ys (inserted a ∷ more) at = (of ys a (at .0), each (C ys a .table) more (at .1))

@@ -2,7 +2,7 @@
 use mathlib.Core.Path.{_≡_, refl, _∙_}
 use mathlib.Core.Bool.{Bool, true, false, cond, false≢true}
 use Rattle.lent.specs.Keyed.{replacedFor}
-use Rattle.runs.specs.Run.{End, Reply, callOf}
+use Rattle.runs.specs.Run.{End, Reply, callByKey}
 use Rattle.runs.specs.Exact.{Document, storedFor, sentFor}
 use Rattle.runs.specs.ShutOut as claim
 
@@ -20,7 +20,7 @@ module _ (E : End) (D : Document E) where
   moving-breaks C new moved ys a met sends h = by-test (claim.moves E C new ys a) met h
     where
       moves-numbers : Reply E
-      moves-numbers = record { answer = 0; signals = E .silent; table = replacedFor (E .key) (a .key) (moved (callOf E (a .key) ys)) ys }
+      moves-numbers = record { answer = 0; signals = E .silent; table = replacedFor (E .key) (a .key) (moved (callByKey E (a .key) ys)) ys }
 
       by-test : (b : Bool) → b ≡ true →
           (cond b moves-numbers (C ys a) .answer ≡ 0 →

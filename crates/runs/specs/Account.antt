@@ -9,7 +9,7 @@ use lib.Dec.{eqb, ltb}
 use lib.ListN.{length}
 use Rattle.lent.specs.Keyed.{onRecord, replacedFor}
 use Rattle.signal.specs.Counting.{count}
-use Rattle.runs.specs.Run.{End, Does, opens, meets, Asked, Reply, Control, after, emptyTable, callOf, RefusalsAreSilent}
+use Rattle.runs.specs.Run.{End, Does, opens, meets, KeyedRequest, Reply, Table, Control, tableAfter, emptyTable, callByKey, RefusalsAreSilent}
 
 -- a call that has been: the numbers given to it, and the numbers ended, each as often as it was
 pub record Spell : Type 0 where
@@ -23,8 +23,8 @@ pub record Log : Type 0 where
   pub requested : List ℕ
   pub past : List Spell
 
-abbrev pub nothing : Log
-nothing = record { given = []; ended = []; requested = []; past = [] }
+abbrev pub emptyLog : Log
+emptyLog = record { given = []; ended = []; requested = []; past = [] }
 
 -- the numbers from 1 to n
 abbrev pub oneTo : ℕ → List ℕ
@@ -42,8 +42,8 @@ AllSettled (s ∷ more) = Settled s × AllSettled more
 
 module _ (E : End) where
   -- the number that a request gives: the record's last number, where it has grown
-  abbrev pub givenBy : E .Record → E .Record → List ℕ
-  givenBy before now = cond (ltb (E .last before) (E .last now)) (E .last now ∷ []) []
+  abbrev pub givenBetween : E .Record → E .Record → List ℕ
+  givenBetween before now = cond (ltb (E .last before) (E .last now)) (E .last now ∷ []) []
 
   -- the numbers that an event ends, read off the event and what is sent alone: by a release received, and by releases sent
   abbrev pub endedBy : E .Event → Reply E → List ℕ
@@ -76,18 +76,18 @@ module _ (E : End) where
   entered (opens w) false before now r l = sentIn r l
   entered (meets e) true before now r l =
       record {
-        given = l .given ++ givenBy before now;
+        given = l .given ++ givenBetween before now;
         ended = l .ended ++ endedBy e r;
         requested = l .requested ++ askedBy r;
         past = l .past;
       }
   entered (meets e) false before now r l = sentIn r l
 
-  abbrev pub noted : ℕ → List (E .Record) → Asked E → Reply E → Log → Log
-  noted k ys a r l = cond (eqb (a .key) k) (entered (a .does) (eqb (r .answer) 0) (callOf E k ys) (callOf E k (r .table)) r l) l
+  abbrev pub noted : ℕ → Table E → KeyedRequest E → Reply E → Log → Log
+  noted k ys a r l = cond (eqb (a .key) k) (entered (a .does) (eqb (r .answer) 0) (callByKey E k ys) (callByKey E k (r .table)) r l) l
 
   -- the log of a key along a run
-  abbrev pub logged : Control E → ℕ → List (E .Record) → Log → List (Asked E) → Log
+  abbrev pub logged : Control E → ℕ → Table E → Log → List (KeyedRequest E) → Log
   logged C k ys l [] = l
   logged C k ys l (a ∷ more) = logged C k (C ys a .table) (noted k ys a (C ys a) l) more
 
@@ -111,14 +111,14 @@ module _ (E : End) where
   -- In every run from an empty table, at every point (a run to there is a run), for every key.
   abbrev pub Accounting : Control E → Type 0
   Accounting C =
-      (n : ℕ) (requests : List (Asked E)) (k : ℕ) → (k ≡ 0 → ⊥) →
-      Account (callOf E k (after E C (emptyTable E n) requests)) (logged C k (emptyTable E n) nothing requests)
+      (n : ℕ) (requests : List (KeyedRequest E)) (k : ℕ) → (k ≡ 0 → ⊥) →
+      Account (callByKey E k (tableAfter E C (emptyTable E n) requests)) (logged C k (emptyTable E n) emptyLog requests)
 
   -- ---- what one request must do for that, over any table: the laws that an end shows of its own control
 
   -- an opening that is done: the key was not on record, a record was empty, and the first such holds the new call, with number 1; nothing
   -- is sent
-  pub record Opened (ys : List (E .Record)) (k : ℕ) (r : Reply E) : Type 0 where
+  pub record Opened (ys : Table E) (k : ℕ) (r : Reply E) : Type 0 where
     pub call : E .Record
     pub own : E .key call ≡ k
     pub free : onRecord (E .key) 0 ys ≡ true
@@ -133,27 +133,27 @@ module _ (E : End) where
   Lives k before now = ((E .key now ≡ k) × ((E .last now ≡ E .last before) ⊎ (E .last now ≡ suc (E .last before)))) ⊎ (now ≡ E .empty)
 
   -- an event that is done: the record of the key becomes another, and what was held and given is held or ended
-  pub record Met (ys : List (E .Record)) (k : ℕ) (e : E .Event) (r : Reply E) : Type 0 where
+  pub record Met (ys : Table E) (k : ℕ) (e : E .Event) (r : Reply E) : Type 0 where
     pub call : E .Record
     pub known : onRecord (E .key) k ys ≡ true
     pub stored : r .table ≡ replacedFor (E .key) k call ys
-    pub lives : Lives k (callOf E k ys) call
+    pub lives : Lives k (callByKey E k ys) call
     pub balances : (x : ℕ) →
-        count x (E .held (callOf E k ys)) + count x (givenBy (callOf E k ys) call) ≡ count x (E .held call) + count x (endedBy e r)
-    pub asks : (x : ℕ) → 1 ≤ x → count x (E .requested (r .signals)) ≤ count x (givenBy (callOf E k ys) call)
+        count x (E .held (callByKey E k ys)) + count x (givenBetween (callByKey E k ys) call) ≡ count x (E .held call) + count x (endedBy e r)
+    pub asks : (x : ℕ) → 1 ≤ x → count x (E .requested (r .signals)) ≤ count x (givenBetween (callByKey E k ys) call)
 
-  pub record Lawful (C : Control E) : Type 0 where
+  pub record LawfulControl (C : Control E) : Type 0 where
     pub unused : E .key (E .empty) ≡ 0
     pub spent : E .last (E .empty) ≡ 0
     pub nothing-held : E .held (E .empty) ≡ []
     pub nothing-released : E .released (E .silent) ≡ []
     pub nothing-requested : E .requested (E .silent) ≡ []
     pub refused : RefusalsAreSilent E C
-    pub opened : (ys : List (E .Record)) (k : ℕ) (w : E .Wanted) → C ys (record { key = k; does = opens w }) .answer ≡ 0 →
+    pub opened : (ys : Table E) (k : ℕ) (w : E .Wanted) → C ys (record { key = k; does = opens w }) .answer ≡ 0 →
         Opened ys k (C ys (record { key = k; does = opens w }))
-    pub met : (ys : List (E .Record)) (k : ℕ) (e : E .Event) → C ys (record { key = k; does = meets e }) .answer ≡ 0 →
+    pub met : (ys : Table E) (k : ℕ) (e : E .Event) → C ys (record { key = k; does = meets e }) .answer ≡ 0 →
         Met ys k e (C ys (record { key = k; does = meets e }))
 
   -- Any control with these laws keeps the account.
   abbrev pub LawsKeepAccount : Type 0
-  LawsKeepAccount = (C : Control E) → Lawful C → Accounting C
+  LawsKeepAccount = (C : Control E) → LawfulControl C → Accounting C

@@ -28,39 +28,44 @@ pub data Does (Opening Happening : Type 0) : Type 0 where
   opens : Opening → Does Opening Happening
   meets : Happening → Does Opening Happening
 
-pub record Asked (E : End) : Type 0 where
+-- a request: a key, and what is done with it
+pub record KeyedRequest (E : End) : Type 0 where
   pub key : ℕ
   pub does : Does (E .Wanted) (E .Event)
+
+-- the records of a table, in their order
+abbrev pub Table : End → Type 0
+Table E = List (E .Record)
 
 -- what a control makes of a table and a request: the answer's number, the signals, and the table afterwards
 pub record Reply (E : End) : Type 0 where
   pub answer : ℕ
   pub signals : E .Signals
-  pub table : List (E .Record)
+  pub table : Table E
 
 abbrev pub Control : End → Type 0
-Control E = List (E .Record) → Asked E → Reply E
+Control E = Table E → KeyedRequest E → Reply E
 
 module _ (E : End) (C : Control E) where
   -- requests, each answered in turn: the replies along the way
-  abbrev pub runOf : List (E .Record) → List (Asked E) → List (Reply E)
-  runOf ys [] = []
-  runOf ys (a ∷ more) = C ys a ∷ runOf (C ys a .table) more
+  abbrev pub repliesTo : Table E → List (KeyedRequest E) → List (Reply E)
+  repliesTo ys [] = []
+  repliesTo ys (a ∷ more) = C ys a ∷ repliesTo (C ys a .table) more
 
   -- and the table at the end
-  abbrev pub after : List (E .Record) → List (Asked E) → List (E .Record)
-  after ys [] = ys
-  after ys (a ∷ more) = after (C ys a .table) more
+  abbrev pub tableAfter : Table E → List (KeyedRequest E) → Table E
+  tableAfter ys [] = ys
+  tableAfter ys (a ∷ more) = tableAfter (C ys a .table) more
 
   -- A refusal changes no record and sends no signal, over any table.
   abbrev pub RefusalsAreSilent : Type 0
   RefusalsAreSilent =
-      (ys : List (E .Record)) (a : Asked E) → (C ys a .answer ≡ 0 → ⊥) → (C ys a .table ≡ ys) × (C ys a .signals ≡ E .silent)
+      (ys : Table E) (a : KeyedRequest E) → (C ys a .answer ≡ 0 → ⊥) → (C ys a .table ≡ ys) × (C ys a .signals ≡ E .silent)
 
 -- an empty table of n records
-abbrev pub emptyTable : (E : End) → ℕ → List (E .Record)
+abbrev pub emptyTable : (E : End) → ℕ → Table E
 emptyTable E n = replicate n (E .empty)
 
 -- the call of a key, and the empty record where none has it
-abbrev pub callOf : (E : End) → ℕ → List (E .Record) → E .Record
-callOf E k ys = recordOf (E .key) (E .empty) k ys
+abbrev pub callByKey : (E : End) → ℕ → Table E → E .Record
+callByKey E k ys = recordOf (E .key) (E .empty) k ys

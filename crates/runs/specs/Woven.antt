@@ -1,27 +1,27 @@
 -- A sequence of requests with others inserted anywhere into it. Assumes nothing.
 use mathlib.Core.Path.{_≡_}
 use mathlib.Core.List.{List, [], _∷_}
-use Rattle.runs.specs.Run.{End, Asked, Reply, Control, runOf, after}
+use Rattle.runs.specs.Run.{End, KeyedRequest, Reply, Table, Control, repliesTo, tableAfter}
 
 module _ (E : End) where
   -- a request of the sequence itself, or one that is inserted
-  pub data Item : Type 0 where
-    own : Asked E → Item
-    inserted : Asked E → Item
+  pub data Strand : Type 0 where
+    own : KeyedRequest E → Strand
+    inserted : KeyedRequest E → Strand
 
   -- the sequence by itself, and with what is inserted
-  abbrev pub itself : List Item → List (Asked E)
+  abbrev pub itself : List Strand → List (KeyedRequest E)
   itself [] = []
   itself (own a ∷ more) = a ∷ itself more
   itself (inserted a ∷ more) = itself more
 
-  abbrev pub woven : List Item → List (Asked E)
+  abbrev pub woven : List Strand → List (KeyedRequest E)
   woven [] = []
   woven (own a ∷ more) = a ∷ woven more
   woven (inserted a ∷ more) = a ∷ woven more
 
   -- of the replies to a woven sequence, those to its own requests
-  abbrev pub ownReplies : List Item → List (Reply E) → List (Reply E)
+  abbrev pub ownReplies : List Strand → List (Reply E) → List (Reply E)
   ownReplies [] rs = []
   ownReplies (own a ∷ more) [] = []
   ownReplies (own a ∷ more) (r ∷ rs) = r ∷ ownReplies more rs
@@ -30,17 +30,17 @@ module _ (E : End) where
 
   module _ (C : Control E) where
     -- P holds of each insertion: of the table then, the request, and what the control replies to it
-    abbrev pub AtInsertions : (List (E .Record) → Asked E → Reply E → Type 0) → List (E .Record) → List Item → Type 0
+    abbrev pub AtInsertions : (Table E → KeyedRequest E → Reply E → Type 0) → Table E → List Strand → Type 0
     AtInsertions P ys [] = Unit {0}
     AtInsertions P ys (own a ∷ more) = AtInsertions P (C ys a .table) more
     AtInsertions P ys (inserted a ∷ more) = P ys a (C ys a) × AtInsertions P (C ys a .table) more
 
     -- what the insertions leave: every reply to the sequence's own requests, answer, signals and table, and the table at the end
-    pub record LeftAlone (ys : List (E .Record)) (items : List Item) : Type 0 where
-      pub replies : ownReplies items (runOf E C ys (woven items)) ≡ runOf E C ys (itself items)
-      pub table : after E C ys (woven items) ≡ after E C ys (itself items)
+    pub record LeftAlone (ys : Table E) (strands : List Strand) : Type 0 where
+      pub replies : ownReplies strands (repliesTo E C ys (woven strands)) ≡ repliesTo E C ys (itself strands)
+      pub table : tableAfter E C ys (woven strands) ≡ tableAfter E C ys (itself strands)
 
     -- Insertions that each leave the table as it was leave all else: what follows is answered as if they had not been.
     abbrev pub InertInsertions : Type 0
     InertInsertions =
-        (ys : List (E .Record)) (items : List Item) → AtInsertions (λ zs a r. r .table ≡ zs) ys items → LeftAlone ys items
+        (ys : Table E) (strands : List Strand) → AtInsertions (λ zs a r. r .table ≡ zs) ys strands → LeftAlone ys strands

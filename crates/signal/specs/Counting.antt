@@ -2,7 +2,7 @@
 use Prim.Native.Nat.{ℕ, _+_}
 use mathlib.Core.Path.{_≡_}
 use mathlib.Core.Bool.{Bool, true, false, _&&_, _||_, cond}
-use mathlib.Core.List.{List, [], _∷_, _++_}
+use mathlib.Core.List.{List, [], _∷_}
 use lib.Dec.{eqb, ltb}
 use Rattle.signal.specs.declared.Kind.{Kind}
 use Rattle.signal.specs.declared.Kind.the-variants.{NoSignal, TimerStart, TimerStop, Switch, CallingRelease, IncumbentRelease, ReroutingRelease, SetupRequest, ConnectRequest, Rejection}
@@ -46,11 +46,14 @@ abbrev pub named : List Signal → List ℕ
 named [] = []
 named (s ∷ more) = s .connection ∷ named more
 
--- the connections that the signals end: a release of the incumbent or of the rerouting connection, sent, ends it
+-- a release of the incumbent or of the rerouting connection, sent, ends it
+abbrev pub endsConnection : Signal → Bool
+endsConnection s = eqb (kindNumber (s .kind)) 5 || eqb (kindNumber (s .kind)) 6
+
+-- the connections that the signals end
 abbrev pub endedSent : List Signal → List ℕ
 endedSent [] = []
-endedSent (s ∷ more) =
-    cond (eqb (kindNumber (s .kind)) 5 || eqb (kindNumber (s .kind)) 6) (s .connection ∷ endedSent more) (endedSent more)
+endedSent (s ∷ more) = cond (endsConnection s) (s .connection ∷ endedSent more) (endedSent more)
 
 abbrev pub isCallRejected : CauseCode → Bool
 isCallRejected Section66 = false

@@ -15,7 +15,7 @@ use Rattle.signal.specs.declared.Switchover.{Switchover}
 use Rattle.events.specs.declared.Event.{Event}
 use Rattle.events.specs.declared.Event.the-variants.{Connect, Expiry, FromDomain, FromParty, NoPath, PathFound, Ready, Setup, Trigger}
 use Rattle.rows.proofs.Wanted.{is-first, its-incumbent, names-unheld}
-use Rattle.rows.specs.Cases.{AsksClearing, AsksImmediate, AsksOther, askedOf, asksClearing, cameNone, classOf, happeningOf, isIncumbent}
+use Rattle.rows.specs.Cases.{AsksClearing, AsksImmediate, AsksOther, askingOf, asksClearing, cameNone, classOf, happeningOf, isIncumbent}
 use Rattle.rows.specs.Cases.{isRerouting}
 use Rattle.rows.specs.Effects.{causesOf}
 use Rattle.rows.specs.Meaning.{Agrees}
@@ -25,7 +25,7 @@ use Rattle.rows.specs.declared.Class.the-variants.{CameComplete, CameOther, Cam
 use Rattle.rows.specs.declared.State.{State}
 use Rattle.rows.specs.declared.State.the-variants.{Awaiting, HardUnderway, HardWaiting, Idle, Null, SoftInitiated, SoftProceeding}
 use Rattle.rows.specs.declared.State.the-variants.{SoftTriggered}
-use Rattle.source_rows.specs.Demands.{isBusy, isMissing, meaningless, meaninglessIn, rejectedFor, setupRejection, sourceDemands}
+use Rattle.source_rows.specs.Demands.{isBusy, hasNoCause, meaningless, meaninglessIn, rejectedFor, setupRejection, sourceDemands}
 use Rattle.source_rows.specs.Demands.{sourceWants, turnsAway, turnsAwayIn}
 
 number-is : (s : State) → phaseNumber (phaseOf s) ≡ stateNumber s
@@ -59,7 +59,7 @@ meaningless-is soft s remote (FromDomain c cause crankback) = ap (λ (n : ℕ). 
 meaningless-is soft s remote Ready = ap (λ (n : ℕ). not (eqb n 6)) (number-is s)
 meaningless-is soft s remote Expiry = ap not (hard-is s)
 
-clearing-is : (code : Switchover) → asksClearing (askedOf code) ≡ isClearing code
+clearing-is : (code : Switchover) → asksClearing (askingOf code) ≡ isClearing code
 clearing-is code = by (eqb (code .code) 0) (eqb (code .code) 1) refl refl
   where
     by : (a b : Bool) → eqb (code .code) 0 ≡ a → eqb (code .code) 1 ≡ b → asksClearing (cond a AsksImmediate (cond b AsksClearing AsksOther)) ≡ b
@@ -71,7 +71,7 @@ clearing-is code = by (eqb (code .code) 0) (eqb (code .code) 1) refl refl
     by false true p q = refl
     by false false p q = refl
 
-rejected-is : (remote : ℕ) (s : State) (code : Switchover) (number : ℕ) → causesOf (rejectedFor (phaseOf s) (askedOf code) (isLate number remote)) ≡ setupRejection remote s code number
+rejected-is : (remote : ℕ) (s : State) (code : Switchover) (number : ℕ) → causesOf (rejectedFor (phaseOf s) (askingOf code) (isLate number remote)) ≡ setupRejection remote s code number
 rejected-is remote s code number =
     (λ i.
     causesOf
@@ -85,7 +85,7 @@ rejected-is remote s code number =
     by true false false = refl
     by false b c = refl
 
-missing-is : (cause : ReceivedCause) → cameNone (classOf cause) ≡ isMissing cause
+missing-is : (cause : ReceivedCause) → cameNone (classOf cause) ≡ hasNoCause cause
 missing-is NoCause = refl
 missing-is (WithCause k) = by (eqb (k .number) 1) (eqb (k .number) 4)
   where

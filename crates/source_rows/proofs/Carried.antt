@@ -23,7 +23,7 @@ use Rattle.rows.proofs.Every.{Each, each}
 use Rattle.rows.proofs.Same.{not-so}
 use Rattle.rows.proofs.Sent.{or-right}
 use Rattle.rows.proofs.Unneeded.{either, fresh-either, room-is}
-use Rattle.rows.specs.Cases.{AsksClearing, AsksImmediate, AsksOther, Standing, askedOf, caseOf, classOf, happeningOf}
+use Rattle.rows.specs.Cases.{AsksClearing, AsksImmediate, AsksOther, Standing, askingOf, caseOf, classOf, happeningOf}
 use Rattle.rows.specs.Effects.{SourceNode, doneIn, givesNew, isNext, refusedIn, said}
 use Rattle.rows.specs.Laws.{laws}
 use Rattle.rows.specs.Rules.{Rule, Saying, refuses}
@@ -60,7 +60,7 @@ rejected-at say (SoftInitiated i r) next = refl
 rejected-at say (Awaiting i r) next = refl
 
 -- rows 1 and 2 of a setup, by its code
-pub asked-is : (code : Switchover) (late : Bool) (phase : Phase) (room : Bool) → setupAsked (askedOf code) late phase room ≡ cond (isClearing code) (cond late (rejectedOld phase) (setupIn phase room)) (rejectedUnsupported phase)
+pub asked-is : (code : Switchover) (late : Bool) (phase : Phase) (room : Bool) → setupAsked (askingOf code) late phase room ≡ cond (isClearing code) (cond late (rejectedOld phase) (setupIn phase room)) (rejectedUnsupported phase)
 asked-is code late phase room = by (eqb (code .code) 0) (eqb (code .code) 1) refl refl
   where
     by : (a b : Bool) → eqb (code .code) 0 ≡ a → eqb (code .code) 1 ≡ b → setupAsked (cond a AsksImmediate (cond b AsksClearing AsksOther)) late phase room ≡ cond b (cond late (rejectedOld phase) (setupIn phase room)) (rejectedUnsupported phase)

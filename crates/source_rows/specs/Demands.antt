@@ -13,7 +13,7 @@ use Rattle.signal.specs.declared.Soft.{Soft}
 use Rattle.signal.specs.declared.Switchover.{Switchover}
 use Rattle.events.specs.declared.Event.{Event}
 use Rattle.events.specs.declared.Event.the-variants.{Connect, Expiry, FromDomain, FromParty, NoPath, PathFound, Ready, Setup, Trigger}
-use Rattle.rows.specs.Cases.{Asked, Connected, DomainReleased, Expired, FoundNone, FoundPath, Happening, NamesIncumbent, PartyReleased}
+use Rattle.rows.specs.Cases.{Asking, Connected, DomainReleased, Expired, FoundNone, FoundPath, Happening, NamesIncumbent, PartyReleased}
 use Rattle.rows.specs.Cases.{SaidReady, SetUp, Triggered, asksClearing, cameNone}
 use Rattle.rows.specs.Checks.{Demands, isItsIncumbent, namesNotHeld}
 use Rattle.rows.specs.Effects.{SourceNode}
@@ -59,9 +59,9 @@ setupRejection remote s code number =
     cond (not (isClearing code)) (unsupported ∷ [])
     (cond (isLate number remote) (oldNumber ∷ []) (cond (isBusy s) (inProgress ∷ []) []))
 
-abbrev pub isMissing : ReceivedCause → Bool
-isMissing NoCause = true
-isMissing (WithCause k) = false
+abbrev pub hasNoCause : ReceivedCause → Bool
+hasNoCause NoCause = true
+hasNoCause (WithCause k) = false
 
 -- Cause code #21 stands on the rerouting release of a connect answered no (6.2.6.2) and of D18's last line, and nowhere else
 abbrev pub turnsAway : Bool → State → Event → Bool
@@ -71,7 +71,7 @@ turnsAway hard s NoPath = false
 turnsAway hard s (Connect c agreed) = isSoftProceeding s && (not (namesNotHeld s (Connect c agreed)) && not agreed)
 turnsAway hard s (Setup code number) = false
 turnsAway hard s (FromParty cause) = false
-turnsAway hard s (FromDomain c cause crankback) = isInitiated s && (isItsIncumbent s c && (hard && isMissing cause))
+turnsAway hard s (FromDomain c cause crankback) = isInitiated s && (isItsIncumbent s c && (hard && hasNoCause cause))
 turnsAway hard s Ready = false
 turnsAway hard s Expiry = false
 
@@ -108,7 +108,7 @@ meaninglessIn phase soft (DomainReleased role class crankback) = isIn 0 phase
 meaninglessIn phase soft SaidReady = not (isIn 6 phase)
 meaninglessIn phase soft Expired = not (isHardPhase phase)
 
-abbrev pub rejectedFor : Phase → Asked → Bool → List Saying
+abbrev pub rejectedFor : Phase → Asking → Bool → List Saying
 rejectedFor phase asked late =
     cond (not (asksClearing asked)) (Says8 ∷ [])
     (cond late (Says5 ∷ []) (cond (waitsForPath phase || waitsForConnect phase) (Says6 ∷ []) []))

@@ -15,7 +15,7 @@ use Rattle.signal.specs.declared.CauseCode.the-variants.{Section66}
 use Rattle.signal.specs.declared.Crankback.{Crankback}
 use Rattle.signal.specs.declared.Crankback.the-variants.{AlternateFound, NoAlternate, NoCrankback}
 use Rattle.signal.specs.declared.Soft.{Soft}
-use Rattle.rows.specs.Cases.{Asked, AsksClearing, AsksImmediate, AsksOther, Case, Connected, DomainReleased, Expired, FoundNone}
+use Rattle.rows.specs.Cases.{Asking, AsksClearing, AsksImmediate, AsksOther, Case, Connected, DomainReleased, Expired, FoundNone}
 use Rattle.rows.specs.Cases.{FoundPath, Happening, NamesIncumbent, NamesOther, NamesRerouting, PartyReleased, Role, SaidReady, SetUp}
 use Rattle.rows.specs.Cases.{Triggered, asksClearing, cameNone}
 use Rattle.rows.specs.Laws.{firstAnswer, holdsRole, samePhase, sameRole}
@@ -44,8 +44,8 @@ withRoom c = c .room
 abbrev pub atLastNumber : Case → Bool
 atLastNumber c = not (c .room)
 
-abbrev pub both : (Case → Bool) → (Case → Bool) → Case → Bool
-both one other c = one c && other c
+abbrev pub inBoth : (Case → Bool) → (Case → Bool) → Case → Bool
+inBoth one other c = one c && other c
 
 -- the two Triggered states, the two Proceeding states (01, "Numbers of refusal")
 abbrev pub triggeredPhase : Phase → Bool
@@ -115,8 +115,8 @@ happeningNumber SaidReady = 8
 happeningNumber Expired = 9
 
 -- one of the events without values, in a state
-abbrev pub meets : Happening → Phase → Case → Bool
-meets happening phase c = inState phase c && eqb (happeningNumber (c .happening)) (happeningNumber happening)
+abbrev pub happensIn : Happening → Phase → Case → Bool
+happensIn happening phase c = inState phase c && eqb (happeningNumber (c .happening)) (happeningNumber happening)
 
 abbrev pub isCalling : (Class → Bool) → Happening → Bool
 isCalling test Triggered = false
@@ -151,7 +151,7 @@ isConnect policy (DomainReleased role class crankback) = false
 isConnect policy SaidReady = false
 isConnect policy Expired = false
 
-abbrev pub isSetup : (Asked → Bool → Bool) → Happening → Bool
+abbrev pub isSetup : (Asking → Bool → Bool) → Happening → Bool
 isSetup test Triggered = false
 isSetup test FoundPath = false
 isSetup test FoundNone = false
@@ -184,25 +184,25 @@ abbrev pub connectIn : Phase → (Bool → Bool) → Case → Bool
 connectIn phase policy c = inState phase c && isConnect policy (c .happening)
 
 -- a setup, by the switchover that it asks for and whether its number is late
-abbrev pub asksImmediate : Asked → Bool
+abbrev pub asksImmediate : Asking → Bool
 asksImmediate AsksImmediate = true
 asksImmediate AsksClearing = false
 asksImmediate AsksOther = false
 
-abbrev pub asksUnrecognized : Asked → Bool
+abbrev pub asksUnrecognized : Asking → Bool
 asksUnrecognized AsksImmediate = false
 asksUnrecognized AsksClearing = false
 asksUnrecognized AsksOther = true
 
-abbrev pub setupCameIn : Phase → (Asked → Bool → Bool) → Case → Bool
+abbrev pub setupCameIn : Phase → (Asking → Bool → Bool) → Case → Bool
 setupCameIn phase test c = inState phase c && isSetup test (c .happening)
 
 -- a soft reroute setup indication: asked to switch at clearing, and turned away by no earlier question (D25-8)
-abbrev pub isSoftSetup : Asked → Bool → Bool
+abbrev pub isSoftSetup : Asking → Bool → Bool
 isSoftSetup asked late = asksClearing asked && not late
 
 -- asked to switch at clearing, by a number that is not greater than the one on record (D25-5; C-1, note 3)
-abbrev pub isLateSetup : Asked → Bool → Bool
+abbrev pub isLateSetup : Asking → Bool → Bool
 isLateSetup asked late = asksClearing asked && late
 
 -- WORDS OF ITEMS: an item that is silent on all, and what it says, a word for each
@@ -304,7 +304,7 @@ abbrev pub isTabled : Case → Bool
 isTabled c = c .hard && c .room
 
 abbrev pub cell : Phase → (Case → Bool) → Item
-cell phase situation = goesTo phase (about (both isTabled situation))
+cell phase situation = goesTo phase (about (inBoth isTabled situation))
 
 -- THE CHECKS (01, "Numbers of refusal")
 abbrev pub hasNoSoft : Soft → Bool
@@ -335,7 +335,7 @@ isForUnheld phase SaidReady = false
 isForUnheld phase Expired = false
 
 -- a setup that none of the three rejections meets: #8, #5, and #6 in a Triggered or a Proceeding state (01, "Setup", 1 to 3; decision 11)
-abbrev pub isAcceptable : Phase → Asked → Bool → Bool
+abbrev pub isAcceptable : Phase → Asking → Bool → Bool
 isAcceptable phase asked late = isSoftSetup asked late && not (triggeredPhase phase || proceedingPhase phase)
 
 -- 108 at 65,535: what would take a number, a path that is found or a setup that would otherwise be accepted
@@ -367,18 +367,18 @@ isStored c = isDone (checked c) && isSetup (isAcceptable (c .phase)) (c .happeni
 abbrev pub disregards : Phase → List Item
 disregards phase =
     -- D22-1
-    goesTo phase (switchesBy false (closesBy NoClosing (about (meets Triggered phase))))
+    goesTo phase (switchesBy false (closesBy NoClosing (about (happensIn Triggered phase))))
     -- C-1, Trig. Soft (Snp 13)
-    ∷ cell phase (meets Triggered phase)
+    ∷ cell phase (happensIn Triggered phase)
     ∷ []
 
 abbrev pub triggers : Phase → List Item
 triggers AtNull = []
 triggers AtIdle =
     -- 6.2.5.3 case 1 with 6.2.3: a trigger starts the search, and the setup is under construction while the incumbent is active
-    goesTo AtSoftTriggered (about (meets Triggered AtIdle))
+    goesTo AtSoftTriggered (about (happensIn Triggered AtIdle))
     -- C-1, Trig. Soft (Snp 10)
-    ∷ cell AtSoftTriggered (meets Triggered AtIdle)
+    ∷ cell AtSoftTriggered (happensIn Triggered AtIdle)
     ∷ []
 triggers AtHardWaiting = disregards AtHardWaiting
 triggers AtHardUnderway = disregards AtHardUnderway
@@ -391,23 +391,23 @@ triggers AtAwaiting = disregards AtAwaiting
 abbrev pub foundPaths : List Item
 foundPaths =
     -- D21-2 and D21-3
-    goesTo AtHardUnderway (setupIsSent (about (meets FoundPath AtHardWaiting)))
+    goesTo AtHardUnderway (setupIsSent (about (happensIn FoundPath AtHardWaiting)))
     -- C-1, Path (Snp 14)
-    ∷ setupIsSent (cell AtHardUnderway (meets FoundPath AtHardWaiting))
+    ∷ setupIsSent (cell AtHardUnderway (happensIn FoundPath AtHardWaiting))
     -- D22-3 and D22-4
-    ∷ goesTo AtSoftProceeding (setupIsSent (about (meets FoundPath AtSoftTriggered)))
+    ∷ goesTo AtSoftProceeding (setupIsSent (about (happensIn FoundPath AtSoftTriggered)))
     -- C-1, Path (Snp 15)
-    ∷ setupIsSent (cell AtSoftProceeding (meets FoundPath AtSoftTriggered))
+    ∷ setupIsSent (cell AtSoftProceeding (happensIn FoundPath AtSoftTriggered))
     ∷ []
 
 abbrev pub lostPaths : List Item
 lostPaths =
     -- 01, "No path": the timer decides
-    goesTo AtHardWaiting (about (meets FoundNone AtHardWaiting))
+    goesTo AtHardWaiting (about (happensIn FoundNone AtHardWaiting))
     -- D22-2: the trigger comes to nothing, and the call is Idle as before it
-    ∷ goesTo AtIdle (switchesBy false (closesBy NoClosing (about (meets FoundNone AtSoftTriggered))))
+    ∷ goesTo AtIdle (switchesBy false (closesBy NoClosing (about (happensIn FoundNone AtSoftTriggered))))
     -- C-1, No path (Snp 11)
-    ∷ cell AtIdle (meets FoundNone AtSoftTriggered)
+    ∷ cell AtIdle (happensIn FoundNone AtSoftTriggered)
     ∷ []
 
 -- CONNECT
@@ -496,22 +496,22 @@ setups AtAwaiting =
 abbrev pub readies : List Item
 readies =
     -- D25-16
-    goesTo AtAwaiting (connectIsSent (about (meets SaidReady AtSoftInitiated)))
+    goesTo AtAwaiting (connectIsSent (about (happensIn SaidReady AtSoftInitiated)))
     -- C-1, Out. Con (Snp 27)
-    ∷ connectIsSent (cell AtAwaiting (meets SaidReady AtSoftInitiated))
+    ∷ connectIsSent (cell AtAwaiting (happensIn SaidReady AtSoftInitiated))
     ∷ []
 
 -- EXPIRY
 abbrev pub expiries : List Item
 expiries =
     -- D20-1
-    goesTo AtNull (callingGets (with Says2) (about (meets Expired AtHardWaiting)))
+    goesTo AtNull (callingGets (with Says2) (about (happensIn Expired AtHardWaiting)))
     -- C-1, Timer (Snp 19)
-    ∷ callingGets (with Says2) (cell AtNull (meets Expired AtHardWaiting))
+    ∷ callingGets (with Says2) (cell AtNull (happensIn Expired AtHardWaiting))
     -- D20-2
-    ∷ goesTo AtNull (callingAndReroutingGet (with Says2) (about (meets Expired AtHardUnderway)))
+    ∷ goesTo AtNull (callingAndReroutingGet (with Says2) (about (happensIn Expired AtHardUnderway)))
     -- C-1, Timer (Snp 20)
-    ∷ callingAndReroutingGet (with Says2) (cell AtNull (meets Expired AtHardUnderway))
+    ∷ callingAndReroutingGet (with Says2) (cell AtNull (happensIn Expired AtHardUnderway))
     ∷ []
 
 -- RELEASE FROM THE CALLING SIDE. Where two connections are held, D17, D18 and D19 say the same three things, each of its own state
@@ -519,10 +519,10 @@ abbrev pub clearedUnmodified : Phase → Item
 clearedUnmodified phase = goesTo AtNull (connectionsGet (with SaysAsCame) (about (callingIn phase cameSome)))
 
 abbrev pub clearedSilently : Phase → Item
-clearedSilently phase = goesTo AtNull (about (both hardOff (callingIn phase cameNone)))
+clearedSilently phase = goesTo AtNull (about (inBoth hardOff (callingIn phase cameNone)))
 
 abbrev pub clearedWith1 : Phase → Item
-clearedWith1 phase = goesTo AtNull (connectionsGet (with Says1) (about (both hardOn (callingIn phase cameNone))))
+clearedWith1 phase = goesTo AtNull (connectionsGet (with Says1) (about (inBoth hardOn (callingIn phase cameNone))))
 
 abbrev pub callingReleases : Phase → List Item
 callingReleases AtNull = []
@@ -530,9 +530,9 @@ callingReleases AtIdle =
     -- D14-1
     goesTo AtNull (incumbentGets (with SaysAsCame) (about (callingIn AtIdle cameSome)))
     -- D14-2: silent on the cause
-    ∷ goesTo AtNull (about (both hardOff (callingIn AtIdle cameNone)))
+    ∷ goesTo AtNull (about (inBoth hardOff (callingIn AtIdle cameNone)))
     -- D14-3
-    ∷ goesTo AtNull (incumbentGets (with Says1) (about (both hardOn (callingIn AtIdle cameNone))))
+    ∷ goesTo AtNull (incumbentGets (with Says1) (about (inBoth hardOn (callingIn AtIdle cameNone))))
     -- C-1, Rel Clg (Snp 0)
     ∷ cell AtNull (callingIn AtIdle cameAny)
     ∷ []
@@ -552,9 +552,9 @@ callingReleases AtHardUnderway =
     ∷ []
 callingReleases AtSoftTriggered =
     -- D13-1, which is 6.2.4.1 case 1, by way of 6.2.4.5 (decision 1)
-    goesTo AtNull (incumbentGets (with Says1) (about (both hardOn (callingIn AtSoftTriggered cameNone))))
+    goesTo AtNull (incumbentGets (with Says1) (about (inBoth hardOn (callingIn AtSoftTriggered cameNone))))
     -- 6.2.4.1, otherwise, by way of 6.2.4.5: cleared as any call, so with no Rerouting cause, also where one came (decision 1)
-    ∷ goesTo AtNull (incumbentGets plainly (about (both hardOff (callingIn AtSoftTriggered cameNone))))
+    ∷ goesTo AtNull (incumbentGets plainly (about (inBoth hardOff (callingIn AtSoftTriggered cameNone))))
     ∷ goesTo AtNull (incumbentGets plainly (about (callingIn AtSoftTriggered cameSome)))
     -- C-1, Rel Clg (Snp 0)
     ∷ cell AtNull (callingIn AtSoftTriggered cameAny)
@@ -593,18 +593,18 @@ callingReleases AtAwaiting =
 -- RELEASE FROM THE CALLED SIDE. For the incumbent in Soft Proceeding and Soft Initiated 01's rows put hard off first, and so ask for a
 -- cause only with hard on (decision 6); with hard off D17-5, D17-6, D18-5 and D18-6 are departed from
 abbrev pub endedWithout : Phase → Item
-endedWithout phase = goesTo AtNull (callingAndReroutingGet plainly (about (both hardOff (calledIn phase NamesIncumbent cameAny))))
+endedWithout phase = goesTo AtNull (callingAndReroutingGet plainly (about (inBoth hardOff (calledIn phase NamesIncumbent cameAny))))
 
 abbrev pub endedSilently : Phase → Item
-endedSilently phase = goesTo AtNull (about (both hardOff (calledIn phase NamesIncumbent cameAny)))
+endedSilently phase = goesTo AtNull (about (inBoth hardOff (calledIn phase NamesIncumbent cameAny)))
 
 -- the number (decision 5)
 abbrev pub endedWith1 : Phase → Item
-endedWith1 phase = goesTo AtNull (callingAndReroutingGet (with Says1) (about (both hardOn (calledIn phase NamesIncumbent came1))))
+endedWith1 phase = goesTo AtNull (callingAndReroutingGet (with Says1) (about (inBoth hardOn (calledIn phase NamesIncumbent came1))))
 
 -- #4 is such a cause (decision 7)
 abbrev pub endedWith2 : Phase → Item
-endedWith2 phase = goesTo AtNull (callingAndReroutingGet (with Says2) (about (both hardOn (calledIn phase NamesIncumbent cameNot1))))
+endedWith2 phase = goesTo AtNull (callingAndReroutingGet (with Says2) (about (inBoth hardOn (calledIn phase NamesIncumbent cameNot1))))
 
 -- Idle
 abbrev pub calledInIdle : List Item
@@ -612,13 +612,13 @@ calledInIdle =
     -- 6.2.4.2 case 3: #1 goes on without modification, with hard off too (decisions 5 and 6)
     goesTo AtNull (callingGets (with SaysAsCame) (about (calledIn AtIdle NamesIncumbent came1)))
     -- D14-4: silent on the cause
-    ∷ goesTo AtNull (about (both hardOff (calledIn AtIdle NamesIncumbent cameAny)))
+    ∷ goesTo AtNull (about (inBoth hardOff (calledIn AtIdle NamesIncumbent cameAny)))
     -- D14-5: the state
     ∷ goesTo AtNull (about (calledIn AtIdle NamesIncumbent came1))
     -- D14-6: with hard off too (decision 6)
     ∷ goesTo AtNull (callingGets (with Says2) (about (calledIn AtIdle NamesIncumbent cameNot1)))
     -- D14-7
-    ∷ goesTo AtHardWaiting (about (both hardOn (calledIn AtIdle NamesIncumbent cameNone)))
+    ∷ goesTo AtHardWaiting (about (inBoth hardOn (calledIn AtIdle NamesIncumbent cameNone)))
     -- C-1, Rel Cld I.nRC (Snp 8)
     ∷ cell AtHardWaiting (calledIn AtIdle NamesIncumbent cameNone)
     -- C-1, Rel Cld I.RC#4 and I.RC (Snp 4)
@@ -630,8 +630,8 @@ calledInIdle =
 abbrev pub calledInHardProceeding : List Item
 calledInHardProceeding =
     -- 01, the last sentence on releases: a retry at 65,535 is no path, so 6.2.4.4 case 5 (decision 3)
-    goesTo AtNull (callingGets (with Says2) (about (both atLastNumber (crankedIn AtHardUnderway NamesRerouting cameNone crankedFound))))
-    ∷ goesTo AtNull (callingGets (with Says2) (about (both atLastNumber (crankedIn AtHardUnderway NamesRerouting cameNone crankedNone))))
+    goesTo AtNull (callingGets (with Says2) (about (inBoth atLastNumber (crankedIn AtHardUnderway NamesRerouting cameNone crankedFound))))
+    ∷ goesTo AtNull (callingGets (with Says2) (about (inBoth atLastNumber (crankedIn AtHardUnderway NamesRerouting cameNone crankedNone))))
     -- 6.2.4.4 case 3: #1 goes on without modification (decision 5)
     ∷ goesTo AtNull (callingGets (with SaysAsCame) (about (calledIn AtHardUnderway NamesRerouting came1)))
     -- D16-3: the state
@@ -639,11 +639,11 @@ calledInHardProceeding =
     -- D16-4
     ∷ goesTo AtNull (callingGets (with Says2) (about (calledIn AtHardUnderway NamesRerouting cameNot1)))
     -- D16-5: crankback is a setup on a new number (decision 4)
-    ∷ goesTo AtHardUnderway (setupIsSent (about (both withRoom (crankedIn AtHardUnderway NamesRerouting cameNone crankedFound))))
+    ∷ goesTo AtHardUnderway (setupIsSent (about (inBoth withRoom (crankedIn AtHardUnderway NamesRerouting cameNone crankedFound))))
     -- D16-7: in the direction of the calling party, so the calling side (6.2.4.4 case 5)
     ∷ goesTo AtNull (callingGets (with Says2) (about (crankedIn AtHardUnderway NamesRerouting cameNone crankedLost)))
     -- D16-8: the node's choice, which is to retry (decision 2)
-    ∷ goesTo AtHardWaiting (about (both withRoom (crankedIn AtHardUnderway NamesRerouting cameNone crankedNone)))
+    ∷ goesTo AtHardWaiting (about (inBoth withRoom (crankedIn AtHardUnderway NamesRerouting cameNone crankedNone)))
     -- C-1, Rel Cld R.nRC (Snp 10), and its note 1 where a path is found
     ∷ cell AtHardWaiting (crankedIn AtHardUnderway NamesRerouting cameNone crankedNone)
     ∷ cell AtHardUnderway (crankedIn AtHardUnderway NamesRerouting cameNone crankedFound)
@@ -672,7 +672,7 @@ proceedingIncumbent =
     -- D17-6
     ∷ endedWith2 AtSoftProceeding
     -- D17-7
-    ∷ goesTo AtHardUnderway (about (both hardOn (calledIn AtSoftProceeding NamesIncumbent cameNone)))
+    ∷ goesTo AtHardUnderway (about (inBoth hardOn (calledIn AtSoftProceeding NamesIncumbent cameNone)))
     -- C-1, Rel Cld I.nRC (Snp 9: no new setup)
     ∷ closesBy NoClosing (cell AtHardUnderway (calledIn AtSoftProceeding NamesIncumbent cameNone))
     -- C-1, Rel Cld I.RC#4 and I.RC (Snp 5)
@@ -684,9 +684,9 @@ proceedingIncumbent =
 abbrev pub proceedingRerouting : List Item
 proceedingRerouting =
     -- 01, the row: at 65,535 as if none was found
-    goesTo AtIdle (closesBy NoClosing (about (both atLastNumber (crankedIn AtSoftProceeding NamesRerouting cameAny crankedFound))))
+    goesTo AtIdle (closesBy NoClosing (about (inBoth atLastNumber (crankedIn AtSoftProceeding NamesRerouting cameAny crankedFound))))
     -- D17-8: crankback is a setup on a new number, as 01's row says
-    ∷ goesTo AtSoftProceeding (setupIsSent (about (both withRoom (crankedIn AtSoftProceeding NamesRerouting cameAny crankedFound))))
+    ∷ goesTo AtSoftProceeding (setupIsSent (about (inBoth withRoom (crankedIn AtSoftProceeding NamesRerouting cameAny crankedFound))))
     -- D17-10
     ∷ goesTo AtIdle (about (crankedIn AtSoftProceeding NamesRerouting cameAny crankedLost))
     -- D17-11
@@ -711,7 +711,7 @@ initiatedIncumbent =
     -- D18-6
     ∷ endedWith2 AtSoftInitiated
     -- D18-7: #21 is the Cause code, and no Rerouting cause stands beside it (decision 12)
-    ∷ goesTo AtHardWaiting (reroutingGets turnedAway (about (both hardOn (calledIn AtSoftInitiated NamesIncumbent cameNone))))
+    ∷ goesTo AtHardWaiting (reroutingGets turnedAway (about (inBoth hardOn (calledIn AtSoftInitiated NamesIncumbent cameNone))))
     -- C-1, Rel Cld I.nRC (Snp 22)
     ∷ cell AtHardWaiting (calledIn AtSoftInitiated NamesIncumbent cameNone)
     -- C-1, Rel Cld I.RC#4 and I.RC (Snp 5)
@@ -796,9 +796,9 @@ itemsOn phase Expired = expiries
 abbrev pub departedLostPaths : List Item
 departedLostPaths =
     -- D21-1
-    goesTo AtNull (callingGets (with Says2) (about (meets FoundNone AtHardWaiting)))
+    goesTo AtNull (callingGets (with Says2) (about (happensIn FoundNone AtHardWaiting)))
     -- C-1, No path (Snp 16)
-    ∷ callingGets (with Says2) (cell AtNull (meets FoundNone AtHardWaiting))
+    ∷ callingGets (with Says2) (cell AtNull (happensIn FoundNone AtHardWaiting))
     ∷ []
 
 -- D25-5 where another switchover is asked for: 01, "Setup", tries #8 first
@@ -825,10 +825,10 @@ unmodified1 phase named = goesTo AtNull (callingGets (with SaysAsCame) (about (c
 
 -- D17-5 and D18-5, D17-6 and D18-6, where hard is off
 abbrev pub hardOffWith1 : Phase → Item
-hardOffWith1 phase = goesTo AtNull (callingAndReroutingGet (with Says1) (about (both hardOff (calledIn phase NamesIncumbent came1))))
+hardOffWith1 phase = goesTo AtNull (callingAndReroutingGet (with Says1) (about (inBoth hardOff (calledIn phase NamesIncumbent came1))))
 
 abbrev pub hardOffWith2 : Phase → Item
-hardOffWith2 phase = goesTo AtNull (callingAndReroutingGet (with Says2) (about (both hardOff (calledIn phase NamesIncumbent cameNot1))))
+hardOffWith2 phase = goesTo AtNull (callingAndReroutingGet (with Says2) (about (inBoth hardOff (calledIn phase NamesIncumbent cameNot1))))
 
 abbrev pub departedCalled : Phase → List Item
 departedCalled AtNull = []
@@ -841,8 +841,8 @@ departedCalled AtHardUnderway =
     -- D16-3, the number: 6.2.4.4 case 3 forwards the element without modification (decision 5)
     goesTo AtNull (callingGets (with Says1) (about (calledIn AtHardUnderway NamesRerouting came1)))
     -- D16-5 and D16-8 at 65,535: 01, the retry counts as no path (decision 3)
-    ∷ goesTo AtHardUnderway (setupIsSent (about (both atLastNumber (crankedIn AtHardUnderway NamesRerouting cameNone crankedFound))))
-    ∷ goesTo AtHardWaiting (about (both atLastNumber (crankedIn AtHardUnderway NamesRerouting cameNone crankedNone)))
+    ∷ goesTo AtHardUnderway (setupIsSent (about (inBoth atLastNumber (crankedIn AtHardUnderway NamesRerouting cameNone crankedFound))))
+    ∷ goesTo AtHardWaiting (about (inBoth atLastNumber (crankedIn AtHardUnderway NamesRerouting cameNone crankedNone)))
     -- C-1, note 1, where no path is found: 6.2.4.4 case 5, D16-7
     ∷ cell AtHardUnderway (crankedIn AtHardUnderway NamesRerouting cameNone crankedLost)
     ∷ []
@@ -855,7 +855,7 @@ departedCalled AtSoftTriggered =
     ∷ []
 departedCalled AtSoftProceeding =
     -- D17-8 at 65,535: 01, the row, as if none was found (decision 8)
-    goesTo AtSoftProceeding (setupIsSent (about (both atLastNumber (crankedIn AtSoftProceeding NamesRerouting cameAny crankedFound))))
+    goesTo AtSoftProceeding (setupIsSent (about (inBoth atLastNumber (crankedIn AtSoftProceeding NamesRerouting cameAny crankedFound))))
     -- C-1, note 1, where no path is found: 01, the row, "else Idle"; D17-10
     ∷ cell AtSoftProceeding (crankedIn AtSoftProceeding NamesRerouting cameNone crankedLost)
     -- C-1, Rel Cld R.RC (Snp 11), where one is found: 01, the row, does not ask for a cause (decision 8); D17-8

@@ -13,7 +13,7 @@ use Rattle.signal.specs.declared.Soft.{Soft}
 use Rattle.signal.specs.declared.Soft.the-variants.{Asymmetric, NoSoft, Symmetric}
 use Rattle.events.specs.Events.{receivedIn}
 use Rattle.events.specs.declared.Event.{Event}
-use Rattle.rows.specs.Cases.{Asked, AsksClearing, AsksImmediate, AsksOther, Case, Connected, DomainReleased, Expired, FoundNone}
+use Rattle.rows.specs.Cases.{Asking, AsksClearing, AsksImmediate, AsksOther, Case, Connected, DomainReleased, Expired, FoundNone}
 use Rattle.rows.specs.Cases.{FoundPath, Happening, PartyReleased, Role, SaidReady, SetUp, Standing, Triggered, caseOf}
 use Rattle.rows.specs.Effects.{SourceNode, effect, nextNumber}
 use Rattle.rows.specs.Rules.{NewNumber, NoSlot, OldIncumbent, OldRerouting, Rejects, Rule, Saying, Says1, Says2, Says4, Says5, Says6}
@@ -137,7 +137,7 @@ setupIn SoftInitiated room = accepted room SoftInitiated initiatedAgain
 setupIn Awaiting room = accepted room Awaiting initiatedAgain
 
 -- rows 1 and 2 come first: another switchover than "clearing", then a late number
-abbrev pub setupAsked : Asked → Bool → Phase → Bool → Rule
+abbrev pub setupAsked : Asking → Bool → Phase → Bool → Rule
 setupAsked AsksImmediate late phase room = rejectedUnsupported phase
 setupAsked AsksClearing late phase room = cond late (rejectedOld phase) (setupIn phase room)
 setupAsked AsksOther late phase room = rejectedUnsupported phase
@@ -154,7 +154,7 @@ inCall SoftInitiated row = row
 inCall Awaiting row = row
 
 -- without symmetric soft a setup has no meaning (106; decision 13)
-abbrev pub setupRow : Phase → Soft → Bool → Asked → Bool → Rule
+abbrev pub setupRow : Phase → Soft → Bool → Asking → Bool → Rule
 setupRow phase NoSoft room asked late = refuses NoMeaning phase
 setupRow phase Asymmetric room asked late = refuses NoMeaning phase
 setupRow phase Symmetric room asked late = inCall phase (setupAsked asked late phase room)

@@ -6,7 +6,7 @@ use Rattle.signal.specs.declared.Fresh.the-variants.{Spent}
 use Rattle.signal.specs.declared.ReceivedCause.the-variants.{NoCause}
 use Rattle.signal.specs.declared.Soft.{Soft}
 use Rattle.signal.specs.declared.Switchover.{Switchover}
-use Rattle.rows.specs.Cases.{askedOf}
+use Rattle.rows.specs.Cases.{askingOf}
 use Rattle.rows.specs.Effects.{isNext}
 use Rattle.rows.specs.States.{phaseOf}
 use Rattle.rows.specs.declared.Effect.{Effect}
@@ -15,7 +15,7 @@ use Rattle.source_rows.specs.Rows.{atSource, readyRow, setupRow}
 
 abbrev pub setupEffect : Soft → Switchover → ℕ → ℕ → Fresh → State → Effect
 setupEffect soft code number remote next s =
-    atSource s next NoCause (setupRow (phaseOf s) soft (isNext next) (askedOf code) (isLate number remote))
+    atSource s next NoCause (setupRow (phaseOf s) soft (isNext next) (askingOf code) (isLate number remote))
 
 abbrev pub readyEffect : State → Effect
 readyEffect s = atSource s Spent NoCause (readyRow (phaseOf s))

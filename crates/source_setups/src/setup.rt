@@ -7,7 +7,7 @@ ghost use Rattle.signal.specs.declared.Kind.the-variants.{ReroutingRelease};
 ghost use Rattle.signal.specs.declared.SentCause.the-variants.{Absent};
 ghost use Rattle.signal.specs.Signals.{none, rejection, releaseOf};
 ghost use Rattle.rows.specs.declared.State.the-variants.{SoftInitiated};
-ghost use Rattle.rows.specs.Cases.{askedOf};
+ghost use Rattle.rows.specs.Cases.{askingOf};
 ghost use Rattle.rows.specs.Effects.{isNext, doneIn, givenIn};
 ghost use Rattle.rows.specs.States.{phaseOf};
 ghost use Rattle.source_rows.specs.Rows.{atSource, setupIn, setupAsked, inCall};
@@ -87,7 +87,7 @@ fn setup_in(next: Fresh, state: State) -> Effect
 
 // Rows 1 and 2 come before the state is looked at.
 fn setup_checked(code: Switchover, number: u32, remote: u32, next: Fresh, state: State) -> Effect
-    ensures { λ r. ⌜ r ≡ atSource state next NoCause (setupAsked (askedOf code) (isLate number remote) (phaseOf state) (isNext next)) ⌝ }
+    ensures { λ r. ⌜ r ≡ atSource state next NoCause (setupAsked (askingOf code) (isLate number remote) (phaseOf state) (isNext next)) ⌝ }
 {
     if code.clearing() {
         if signal::late(number, remote) {
@@ -100,7 +100,7 @@ fn setup_checked(code: Switchover, number: u32, remote: u32, next: Fresh, state:
 
 // In Null no event has a meaning.
 fn setup_met(code: Switchover, number: u32, remote: u32, next: Fresh, state: State) -> Effect
-    ensures { λ r. ⌜ r ≡ atSource state next NoCause (inCall (phaseOf state) (setupAsked (askedOf code) (isLate number remote) (phaseOf state) (isNext next))) ⌝ }
+    ensures { λ r. ⌜ r ≡ atSource state next NoCause (inCall (phaseOf state) (setupAsked (askingOf code) (isLate number remote) (phaseOf state) (isNext next))) ⌝ }
 {
     match state {
         State::Null => Effect::refused(Answer::NoMeaning, state),

@@ -49,7 +49,7 @@ module _ (half : Half) (L : Lawful half) where
   meeting-quiet : (ys : List Call) (key i : ℕ) (c : Call) → first key 0 ys ≡ At i c → (e : Event) → Quiet ys (placedAt i (handledAt half c e))
   meeting-quiet ys key i c p e h =
       let f : FoundAt key 0 i c ys = found-at key 0 i c ys p in
-      let kept = any.refusals-change-nothing half L c e (handledAt half c e) refl h in
+      let kept = any.refusal-leaves-record half L c e (handledAt half c e) refl h in
       let at : i ≡ f .place = omega (arith, f .at) in (
         ap (set ys i) (kept .0)
             ∙ (ap (λ (n : ℕ). set ys n c) at ∙ (ap (set ys (f .place)) (sym (f .there)) ∙ set-getD ys (f .place) emptied)),
