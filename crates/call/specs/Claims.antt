@@ -1,8 +1,8 @@
--- The claims on one event at one call, at either end. "01" is the scope document, a demand one of the three in README.md, "decision N" a point of
--- docs/DECISIONS.md. Each stands under the requirement that it answers, cited by place and said again in our words; none mentions a row or a case. They
--- speak of every record, fit or not, and of every event, and of whatever a method returns that does what its half of the control does: `Returned` is the
--- contract of the source's `Call::handle`, and of the event's own method. Proofs, once for any half that keeps the laws: proofs/Claims.antt; for the source:
--- proofs/Source.antt. Assumes nothing.
+-- The claims on one event at one call, at either end. "01" is the scope document, a demand one of the three in README.md, "decision N" a
+-- point of docs/DECISIONS.md. Each stands under the requirement that it answers, cited by place and said again in our words; none mentions
+-- a row or a case. They speak of every record, fit or not, and of every event, and of whatever a method returns that does what its half of
+-- the control does: `Returned` is the contract of the source's `Call::handle`, and of the event's own method. Proofs, once for any half
+-- that keeps the laws: proofs/Claims.antt; for the source: proofs/Source.antt. Assumes nothing.
 use Prim.Native.Nat.{_+_, _<_, _≤_, ℕ}
 use mathlib.Core.Bool.{cond, false, not, true}
 use mathlib.Core.List.{List, [], _++_, _∷_}
@@ -35,8 +35,8 @@ use Rattle.call.specs.Record.{emptied, openedFor, standing}
 use Rattle.call.specs.declared.Call.{Call}
 use Rattle.call.specs.declared.Outcome.{Outcome}
 
--- what the laws give of a half: what every event keeps, what the documents of its end ask for, and that a setup which is not rejected brings a number
--- above the one on record
+-- what the laws give of a half: what every event keeps, what the documents of its end ask for, and that a setup which is not rejected
+-- brings a number above the one on record
 pub record Lawful (half : Half) : Type 0 where
   pub kept : (x : Standing) (e : Event) → Kept (half .demands .node) x e (half .does x e)
   pub obeyed : (x : Standing) (e : Event) → Obeys (half .demands) x e (half .does x e)
@@ -95,8 +95,8 @@ module _ (half : Half) where
   abbrev pub RefusalLeavesRecord : Type 0
   RefusalLeavesRecord = Always (λ c e o. (answerGiven o ≡ 0 → ⊥) → (o .call ≡ c) × (o .signals ≡ places []))
 
-  -- 01, "Numbers of refusal": 106, 107 and 108, each in the document's words, with decision 26 for Null (rows, specs/Checks; of the source source_rows,
-  -- specs/Demands). 108 is "path found", or a setup that would otherwise be accepted, when the last number is 65,535.
+  -- 01, "Numbers of refusal": 106, 107 and 108, each in the document's words, with decision 26 for Null (rows, specs/Checks; of the source
+  -- source_rows, specs/Demands). 108 is "path found", or a setup that would otherwise be accepted, when the last number is 65,535.
   abbrev pub IsMeaningless : Call → Event → Type 0
   IsMeaningless c e = half .demands .meaningless (standing c) e ≡ true
 
@@ -120,7 +120,8 @@ module _ (half : Half) where
   Given0 =
       Always (λ c e o. (answerGiven o ≡ 0) ↔ ((IsMeaningless c e → ⊥) × ((NamesNotHeld c e → ⊥) × (HasNoNumber c e → ⊥))))
 
-  -- 01, "Signals": four places, filled from the front in the printed order; unused places stand behind, and each is "none" in all its parts (decision 17).
+  -- 01, "Signals": four places, filled from the front in the printed order; unused places stand behind, and each is "none" in all its parts
+  -- (decision 17).
   abbrev pub SignalsInOrder : Type 0
   SignalsInOrder =
       Always (λ c e o. (length (o .signals) ≡ 4) × ((inOrder (o .signals) ≡ true) × Nones (ofKind NoSignal (o .signals))))
@@ -141,8 +142,8 @@ module _ (half : Half) where
   abbrev pub SwitchNamesIncumbent : Type 0
   SwitchNamesIncumbent = Always (λ c e o. AllIncumbent (o .call .state) (named (ofKind Switch (o .signals))))
 
-  -- 01, "Signals" and decision 17: a release names its own connection, and a connect the rerouting connection, as held before; a setup names the new last
-  -- number.
+  -- 01, "Signals" and decision 17: a release names its own connection, and a connect the rerouting connection, as held before; a setup
+  -- names the new last number.
   abbrev pub SignalsNameTheirOwn : Type 0
   SignalsNameTheirOwn =
       Always
@@ -152,18 +153,21 @@ module _ (half : Half) where
       × (AllAre (reroutingOf (c .state)) (named (ofKind ConnectRequest (o .signals)))
       × AllAre (o .call .last) (named (ofKind SetupRequest (o .signals))))))
 
-  -- 01, "Timer expiry" and the release rows: the node's own party is released, once, exactly when the call ends otherwise than by a release from that side.
+  -- 01, "Timer expiry" and the release rows: the node's own party is released, once, exactly when the call ends otherwise than by a release
+  -- from that side.
   abbrev pub PartyTold : Type 0
   PartyTold =
       Always
       (λ c e o.
-      named (ofKind (partyKind (half .demands .node)) (o .signals)) ≡ partyWanted (not (isNull (c .state))) (not (isNull (o .call .state))) e)
+      named (ofKind (partyKind (half .demands .node)) (o .signals))
+      ≡ partyWanted (not (isNull (c .state))) (not (isNull (o .call .state))) e)
 
   -- 01, "Signals": a Rerouting cause goes out "as received" only where that very cause came.
   abbrev pub CausesAsReceived : Type 0
   CausesAsReceived = Always (λ c e o. Honest (receivedIn e) (o .signals))
 
-  -- 01, "Setup": a setup is rejected exactly by the first row that it breaks, at the source with #8, #5 or #6, and nothing else is ever rejected.
+  -- 01, "Setup": a setup is rejected exactly by the first row that it breaks, at the source with #8, #5 or #6, and nothing else is ever
+  -- rejected.
   abbrev pub RejectedByFirstRow : Type 0
   RejectedByFirstRow = Always (λ c e o. ofKind Rejection (o .signals) ≡ rejectionWanted (half .demands) (standing c) e)
 
@@ -175,8 +179,8 @@ module _ (half : Half) where
       (r : Signal) → rejectionWanted (half .demands) (standing c) e ≡ r ∷ [] →
       (answerGiven o ≡ 0) × ((o .call ≡ c) × (o .signals ≡ places (r ∷ []))))
 
-  -- 01, "Signals": Cause code #21 stands on the releases that the documents of the end say, with no Rerouting cause, and nowhere else; at the source on the
-  -- rerouting release of a connect answered no, and on that of D18's last line.
+  -- 01, "Signals": Cause code #21 stands on the releases that the documents of the end say, with no Rerouting cause, and nowhere else; at
+  -- the source on the rerouting release of a connect answered no, and on that of D18's last line.
   abbrev pub Code21Exactly : Type 0
   Code21Exactly = Always (λ c e o. withCode21 (o .signals) ≡ code21Wanted (half .demands) (standing c) e)
 
@@ -207,7 +211,8 @@ module _ (half : Half) where
   abbrev pub setupsMade : Call → Event → Outcome → ℕ
   setupsMade c e o = length (ofKind SetupRequest (o .signals)) + length (storedWanted (half .demands) (standing c) e)
 
-  -- 01, "The table and its records": while the call lives, the last number stays or grows by one, and grows exactly when a setup is sent or accepted.
+  -- 01, "The table and its records": while the call lives, the last number stays or grows by one, and grows exactly when a setup is sent or
+  -- accepted.
   abbrev pub LastByOne : Type 0
   LastByOne =
       Always
@@ -220,7 +225,8 @@ module _ (half : Half) where
       (λ c e o.
       (x : ℕ) → count x (heldIn (c .state)) + count x (given c o) ≡ count x (heldIn (o .call .state)) + count x (ended e o))
 
-  -- Demand 3, for one event at a sound record: a number that was held or is given is then held or has ended, exactly once; any other number is neither.
+  -- Demand 3, for one event at a sound record: a number that was held or is given is then held or has ended, exactly once; any other number
+  -- is neither.
   abbrev pub HeldOrEndedOnce : Type 0
   HeldOrEndedOnce =
       Always

@@ -1,4 +1,5 @@
--- The record of a call (01, "The table and its records"), at either end, and how the effect of an event is carried out on it. Assumes nothing.
+-- The record of a call (01, "The table and its records"), at either end, and how the effect of an event is carried out on it.
+-- Assumes nothing.
 use Prim.Native.Nat.{ℕ}
 use mathlib.Core.Bool.{Bool, cond, false}
 use mathlib.Core.List.{[]}

@@ -1,12 +1,13 @@
-// The record of a call, at either end, and one method for each event of the source node. A method takes the old record and hands back the new one, beside
-// the answer and the four signals of the event.
+// The record of a call, at either end, and one method for each event of the source node. A method takes the old record and hands back the
+// new one, beside the answer and the four signals of the event.
 //
-// Any record may be given, fit or not: the methods have no `requires`. What an event does stands on the source's page of rows (source_rows) and in the
-// direct code of its rows (source_requests, source_connects, source_setups, source_releases, source_endings); here it is carried out on the record, in one
-// place for all events.
+// Any record may be given, fit or not: the methods have no `requires`. What an event does stands on the source's page of rows (source_rows)
+// and in the direct code of its rows (source_requests, source_connects, source_setups, source_releases, source_endings); here it is carried
+// out on the record, in one place for all events.
 ghost use mathlib.Core.Bool.{cond};
 ghost use mathlib.Core.Path.{_≡_};
-ghost use Rattle.events.specs.declared.Event.the-variants.{Trigger, PathFound, NoPath, Connect, Setup, FromParty, FromDomain, Ready, Expiry};
+ghost use Rattle.events.specs.declared.Event.the-variants.{Trigger, PathFound, NoPath, Connect, Setup};
+ghost use Rattle.events.specs.declared.Event.the-variants.{FromParty, FromDomain, Ready, Expiry};
 ghost use Rattle.call.specs.Record.{movedTo, lastGiven, lastAfter, callDone, carriedOut, openedFor};
 ghost use Rattle.call.specs.Events.{eventOf};
 use events::Event;

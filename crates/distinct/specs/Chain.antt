@@ -1,5 +1,5 @@
--- Chains of the places whose numbers fall into one slot: what the loops of `distinct` keep. A place p is written p + 1, and 0 is the end of a chain. No contract of a
--- public function cites this file. Assumes nothing.
+-- Chains of the places whose numbers fall into one slot: what the loops of `distinct` keep. A place p is written p + 1, and 0 is the end of
+-- a chain. No contract of a public function cites this file. Assumes nothing.
 use mathlib.Core.Path.{_≡_}
 use mathlib.Core.List.{List}
 use Prim.Native.Nat.{ℕ, _+_, _*_, _/_, _%_, _≤_, _<_}

@@ -1,8 +1,8 @@
 // "No number but 0 stands twice", over plain numbers: exact for every list, and near-linear where the numbers are ordinary.
 //
-// The places of each number fall into 1,024 slots, and those of one slot are chained from the last to the first. A new number is looked for along the
-// chain of its slot; where that is longer than 8, among all that came before. So a list of which much falls into one slot costs the square of its length, and one that
-// is spread about its length (docs/SPEED.md). It knows nothing of tables.
+// The places of each number fall into 1,024 slots, and those of one slot are chained from the last to the first. A new number is looked for
+// along the chain of its slot; where that is longer than 8, among all that came before. So a list of which much falls into one slot costs
+// the square of its length, and one that is spread about its length (docs/SPEED.md). It knows nothing of tables.
 ghost use mathlib.Core.Path.{_≡_};
 ghost use mathlib.Core.Bool.{true};
 ghost use Prim.Native.Nat.{ℕ, _<_, _≤_};
@@ -41,7 +41,8 @@ fn among(keys: &[u32], n: usize, x: u32) -> bool
     found
 }
 
-// True only if none of the first i keys is x. At most 8 steps along the chain of x, from `at` on; a place p is written p + 1, and 0 ends a chain.
+// True only if none of the first i keys is x. At most 8 steps along the chain of x, from `at` on; a place p is written p + 1, and 0 ends a
+// chain.
 fn clear(keys: &[u32], next: &[u16; 1024], at: usize, x: u32, i: usize) -> bool
     requires { ⌜ Walk (now keys) (now next) i x at ⌝ }
     ensures { λ r. ⌜ (r ≡ true → (j : ℕ) → j < i → getD (now (keys .entry)) j 0 ≡ x → ⊥) ⌝ }

@@ -1,6 +1,6 @@
-// What may be asked of either end of a call: the events of one call, and what is done with a key. No end is named here: the two releases are told by
-// their role. At the source node the party is the calling one and the domain is released from the called side; at the destination node it is the other
-// way round.
+// What may be asked of either end of a call: the events of one call, and what is done with a key. No end is named here: the two releases
+// are told by their role. At the source node the party is the calling one and the domain is released from the called side; at the
+// destination node it is the other way round.
 use signal::Crankback;
 use signal::ReceivedCause;
 use signal::Switchover;

@@ -1,5 +1,5 @@
--- The theorem for any end: a row that passes the tests of what the documents ask for by case does, of a call and an event, what they ask for. Assumes
--- nothing.
+-- The theorem for any end: a row that passes the tests of what the documents ask for by case does, of a call and an event, what they ask for.
+-- Assumes nothing.
 use Prim.Native.Nat.{_+_, _≤_, ℕ}
 use native.Mathlib.Omega.{arith}
 use mathlib.Core.Bool.{Bool, _&&_, _||_, cond, false, false≢true, not, true}

@@ -1,5 +1,5 @@
--- The checks on one event at either end, in the words of 01 ("Numbers of refusal", "Setup", "Signals"): of a call and an event, with no word of cases or
--- rules. What the documents ask of one end alone is a record, `Demands`. Assumes nothing.
+-- The checks on one event at either end, in the words of 01 ("Numbers of refusal", "Setup", "Signals"): of a call and an event, with no
+-- word of cases or rules. What the documents ask of one end alone is a record, `Demands`. Assumes nothing.
 use Prim.Native.Nat.{ℕ}
 use mathlib.Core.Bool.{Bool, _&&_, _||_, cond, false, not, true}
 use mathlib.Core.List.{List, [], _++_, _∷_}
@@ -22,9 +22,9 @@ use Rattle.rows.specs.declared.State.{State}
 use Rattle.rows.specs.declared.State.the-variants.{Awaiting, HardUnderway, HardWaiting, Idle, Null, SoftInitiated, SoftProceeding}
 use Rattle.rows.specs.declared.State.the-variants.{SoftTriggered}
 
--- What the documents ask of one end: the node, by the party that it tells; 106, the events without meaning; the cause with which a setup is rejected, none
--- where it is not; whether the release of the incumbent, and that of the rerouting connection, bears Cause code #21; and how many signals an event sends at
--- most
+-- What the documents ask of one end: the node, by the party that it tells; 106, the events without meaning; the cause with which a setup is
+-- rejected, none where it is not; whether the release of the incumbent, and that of the rerouting connection, bears Cause code #21; and how
+-- many signals an event sends at most
 pub record Demands : Type 0 where
   pub node : Node
   pub meaningless : Standing → Event → Bool
@@ -142,7 +142,8 @@ abbrev pub Nones : List Signal → Type 0
 Nones [] = Unit
 Nones (s ∷ more) = (s ≡ none) × Nones more
 
--- timer start exactly on entering the Hard states from outside them, once (01, "Signals"); told whether the call is in them before and after
+-- timer start exactly on entering the Hard states from outside them, once (01, "Signals"); told whether the call is in them before and
+-- after
 abbrev pub startsWanted : Bool → Bool → List Signal
 startsWanted before after = cond (not before && after) (timerStart ∷ []) []
 
@@ -150,7 +151,7 @@ startsWanted before after = cond (not before && after) (timerStart ∷ []) []
 abbrev pub stopsWanted : Bool → Bool → Bool → List Signal
 stopsWanted expired before after = cond (before && (not after && not expired)) (timerStop ∷ []) []
 
--- the node's own party is released, once and on connection 0, exactly when the call ends otherwise than by its own release; told whether there is a call
--- before and after
+-- the node's own party is released, once and on connection 0, exactly when the call ends otherwise than by its own release; told whether
+-- there is a call before and after
 abbrev pub partyWanted : Bool → Bool → Event → List ℕ
 partyWanted before after e = cond (before && (not after && not (isFromParty e))) (0 ∷ []) []

@@ -1,4 +1,5 @@
--- What a rule does to a call: one definition for either end, carried out on its state, the next number and the cause that came. Assumes nothing.
+-- What a rule does to a call: one definition for either end, carried out on its state, the next number and the cause that came.
+-- Assumes nothing.
 use Prim.Native.Nat.{ℕ}
 use mathlib.Core.Bool.{Bool, _&&_, _||_, false, true}
 use mathlib.Core.List.{List, [], _++_, _∷_}

@@ -94,4 +94,6 @@ everyIn phase occasion f =
     everyBool
     (λ hard. everySoft
     (λ soft. everyBool
-    (λ room. everyHappening occasion (λ happening. f (record { phase = phase; hard = hard; soft = soft; room = room; happening = happening })))))
+    (λ room.
+    everyHappening occasion
+    (λ happening. f (record { phase = phase; hard = hard; soft = soft; room = room; happening = happening })))))

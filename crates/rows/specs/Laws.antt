@@ -260,8 +260,8 @@ laws c rule =
 abbrev pub isLawful : Case → Rule → Bool
 isLawful c rule = conj (laws c rule)
 
--- What the documents ask of one end beside these laws, by case: 106; the cause with which a setup that has a meaning is rejected; the releases that bear
--- Cause code #21; and how many signals an event sends at most
+-- What the documents ask of one end beside these laws, by case: 106; the cause with which a setup that has a meaning is rejected; the
+-- releases that bear Cause code #21; and how many signals an event sends at most
 pub record Wants : Type 0 where
   pub meaningless : Case → Bool
   pub rejected : Phase → Asking → Bool → List Saying

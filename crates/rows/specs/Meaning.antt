@@ -1,5 +1,5 @@
--- What the laws mean of a call and an event, at either end, in terms that mention no case and no rule: `x` is how the call stands, `f` what the event does.
--- Assumes nothing.
+-- What the laws mean of a call and an event, at either end, in terms that mention no case and no rule: `x` is how the call stands, `f` what
+-- the event does. Assumes nothing.
 use Prim.Native.Nat.{_+_, _≤_, ℕ}
 use mathlib.Core.Bool.{cond, false, not, true}
 use mathlib.Core.List.{List, [], _∷_}
@@ -45,14 +45,15 @@ pub record Still (x : Standing) (f : Effect) : Type 0 where
 -- what every event keeps, at either end
 pub record Kept (node : Node) (x : Standing) (e : Event) (f : Effect) : Type 0 where
   pub quiet : isDone (f .answer) ≡ false → Still x f
-  -- every connection number is accounted for: what is held before, with the number given, is what is held after and what has ended, each counted
+  -- every connection number is accounted for: what is held before, with the number given, is what is held after and what has ended, each
+  -- counted
   pub balanced : (n : ℕ) →
       count n (heldIn (x .state)) + count n (givenBy x f)
       ≡ count n (heldIn (f .state)) + (count n (endedGot e f) + count n (endedSent (f .signals)))
   pub starts : ofKind TimerStart (f .signals) ≡ startsWanted (isHard (x .state)) (isHard (f .state))
   pub stops : ofKind TimerStop (f .signals) ≡ stopsWanted (isExpiry e) (isHard (x .state)) (isHard (f .state))
-  -- a switch names the incumbent after; a release its own connection, as held before; a connect the rerouting connection, as held before; a setup the
-  -- next number
+  -- a switch names the incumbent after; a release its own connection, as held before; a connect the rerouting connection, as held before; a
+  -- setup the next number
   pub switched : AllIncumbent (f .state) (named (ofKind Switch (f .signals)))
   pub incumbents : AllAre (incumbentOf (x .state)) (named (ofKind IncumbentRelease (f .signals)))
   pub reroutings : AllAre (reroutingOf (x .state)) (named (ofKind ReroutingRelease (f .signals)))

@@ -1,6 +1,7 @@
--- The laws that leave one row. What the papers say of an end's events elsewhere than in its rows (the checks and general sentences of 01, Appendix C,
--- Annex D) is a list of items for each case; with the laws of every row it fixes each field of a rule. Whether a connection is released follows from the
--- balance, and what becomes the incumbent or the rerouting connection from the switch and the setup. Assumes nothing.
+-- The laws that leave one row. What the papers say of an end's events elsewhere than in its rows (the checks and general sentences of 01,
+-- Appendix C, Annex D) is a list of items for each case; with the laws of every row it fixes each field of a rule. Whether a connection is
+-- released follows from the balance, and what becomes the incumbent or the rerouting connection from the switch and the setup.
+-- Assumes nothing.
 use mathlib.Core.Bool.{Bool, _&&_, _||_, cond, false, not, true}
 use mathlib.Core.List.{List, [], _∷_}
 use Rattle.signal.specs.declared.Answer.{Answer}
@@ -36,8 +37,9 @@ sameClosing (Rejects say code) (SendsSetup other) = false
 sameClosing (Rejects say code) (SendsConnect other) = false
 sameClosing (Rejects say code) (Rejects another also) = sameSaying say another && sameCode code also
 
--- an item: the cases of which it speaks, and what it says there, a list of one, or the empty list where it is silent: the next state, whether the rerouting
--- connection is switched in, the setup, connect or reject that is sent, and what each release carries, where one is sent
+-- an item: the cases of which it speaks, and what it says there, a list of one, or the empty list where it is silent: the next state,
+-- whether the rerouting connection is switched in, the setup, connect or reject that is sent, and what each release carries, where one is
+-- sent
 pub record Item : Type 0 where
   pub speaks : Case → Bool
   pub next : List Phase
@@ -47,8 +49,9 @@ pub record Item : Type 0 where
   pub retires : List Told
   pub drops : List Told
 
--- what the papers say of an end. The answer by the checks, whether the setup's number is stored, and the items that speak of a case, in the order in which
--- they are asked: 01 before the standard. An item that 01 departs from is kept apart, and must not hold in any case of which it speaks
+-- what the papers say of an end. The answer by the checks, whether the setup's number is stored, and the items that speak of a case, in the
+-- order in which they are asked: 01 before the standard. An item that 01 departs from is kept apart, and must not hold in any case of which
+-- it speaks
 pub record Papers : Type 0 where
   pub answer : Case → Answer
   pub stores : Case → Bool
@@ -64,8 +67,8 @@ abbrev pub firstSaid : {A : Type 0} → (Item → List A) → A → Case → Lis
 firstSaid said a c [] = a
 firstSaid said a c (item ∷ more) = cond (item .speaks c) (orElse (said item) (firstSaid said a c more)) (firstSaid said a c more)
 
--- Where no item speaks: the call stays in its state, nothing is switched, set up, connected or rejected; and 01, "Signals": a row silent on the Rerouting
--- cause means absent, and the Cause code is section 6.6 unless a row says #21.
+-- Where no item speaks: the call stays in its state, nothing is switched, set up, connected or rejected; and 01, "Signals": a row silent on
+-- the Rerouting cause means absent, and the Cause code is section 6.6 unless a row says #21.
 abbrev pub silentTold : Told
 silentTold = Tells SaysNothing Section66
 

@@ -1,5 +1,5 @@
--- What a row says, as data, and the words in which rows are written. A rule has one field for each turn of the printed order of signals (01, "Signals"):
--- so their order, "once each", and "a release names its own connection" hold by construction. Assumes nothing.
+-- What a row says, as data, and the words in which rows are written. A rule has one field for each turn of the printed order of signals
+-- (01, "Signals"): so their order, "once each", and "a release names its own connection" hold by construction. Assumes nothing.
 use mathlib.Core.Bool.{Bool, cond, false, true}
 use lib.Dec.{eqb}
 use Rattle.signal.specs.Numbers.{answerNumber}
@@ -45,9 +45,9 @@ pub data Closing : Type 0 where
   SendsConnect : Slot → Closing
   Rejects : Saying → CauseCode → Closing
 
--- a row: the answer; the next state, and which connection becomes its incumbent, which its rerouting connection; whether the setup's number is stored;
--- and the signals in their turns: timer, switch, release of the party, of the old incumbent, of the old rerouting connection, and setup, connect or reject.
--- A number is given where one of the two connections is new
+-- a row: the answer; the next state, and which connection becomes its incumbent, which its rerouting connection; whether the setup's number
+-- is stored; and the signals in their turns: timer, switch, release of the party, of the old incumbent, of the old rerouting connection,
+-- and setup, connect or reject. A number is given where one of the two connections is new
 pub record Rule : Type 0 where
   pub answer : Answer
   pub phase : Phase

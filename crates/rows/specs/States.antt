@@ -1,5 +1,5 @@
--- The states of either end of a call, by what they hold (6.2.3, 6.3.3; 01, "The table and its records"), and their phases: a state without its numbers.
--- Assumes nothing.
+-- The states of either end of a call, by what they hold (6.2.3, 6.3.3; 01, "The table and its records"), and their phases: a state without
+-- its numbers. Assumes nothing.
 use Prim.Native.Nat.{ℕ}
 use mathlib.Core.Bool.{Bool, false, true}
 use mathlib.Core.List.{List, [], _∷_}
@@ -8,8 +8,9 @@ use Rattle.rows.specs.declared.State.{State}
 use Rattle.rows.specs.declared.State.the-variants.{Awaiting, HardUnderway, HardWaiting, Idle, Null, SoftInitiated, SoftProceeding}
 use Rattle.rows.specs.declared.State.the-variants.{SoftTriggered}
 
--- 0 Null; 1 Rerouting Idle; 2 Hard Reroute Triggered, at the destination Indicated; 3 Hard Reroute Proceeding, at the destination Initiated; 4 Soft
--- Reroute Triggered; 5 Soft Reroute Proceeding; 6 Soft Reroute Initiated; 7 Awaiting Switchover (01, "The table and its records": 0 to 7)
+-- 0 Null; 1 Rerouting Idle; 2 Hard Reroute Triggered, at the destination Indicated; 3 Hard Reroute Proceeding, at the destination
+-- Initiated; 4 Soft Reroute Triggered; 5 Soft Reroute Proceeding; 6 Soft Reroute Initiated; 7 Awaiting Switchover (01, "The table and its
+-- records": 0 to 7)
 pub data Phase : Type 0 where
   AtNull : Phase
   AtIdle : Phase

@@ -1,7 +1,8 @@
 // Rows, for either end of a call: the states, what a row reads of a cause, and what an event does to a call.
 //
-// The rows themselves are data, in specs/: a case is all that a row may read, a rule all that a row says, and one definition carries a rule out. An end's
-// page of rows is a function from cases to rules (crate source_rows). The code of a row is direct, and is proved to return that rule, carried out.
+// The rows themselves are data, in specs/: a case is all that a row may read, a rule all that a row says, and one definition carries a rule
+// out. An end's page of rows is a function from cases to rules (crate source_rows). The code of a row is direct, and is proved to return
+// that rule, carried out.
 ghost use mathlib.Core.Path.{_≡_};
 ghost use Rattle.rows.specs.States.{stateNumber, incumbentOf, reroutingOf};
 ghost use Rattle.rows.specs.Cases.{classOf};
@@ -10,9 +11,9 @@ use signal::Answer;
 use signal::ReceivedCause;
 use signal::Signal;
 
-// The states of 6.2.3 and 6.3.3, each with its own connection numbers: the incumbent first, then the rerouting one. Two have a name for each end:
-// HardWaiting is Hard Reroute Triggered at the source and Hard Reroute Indicated at the destination, HardUnderway is Hard Reroute Proceeding and Hard
-// Reroute Initiated.
+// The states of 6.2.3 and 6.3.3, each with its own connection numbers: the incumbent first, then the rerouting one. Two have a name for
+// each end: HardWaiting is Hard Reroute Triggered at the source and Hard Reroute Indicated at the destination, HardUnderway is Hard Reroute
+// Proceeding and Hard Reroute Initiated.
 pub enum State {
     Null,
     Idle(u16),
@@ -99,8 +100,9 @@ pub fn class_of(cause: ReceivedCause) -> Class
     }
 }
 
-// What an event does to a call: a rule, carried out on the numbers of a record. `gives`: the state holds a new number. `stores`: the setup's incarnation
-// number is stored. The signals come first: so laid out, an event of the trace costs eighteen machine instructions fewer.
+// What an event does to a call: a rule, carried out on the numbers of a record. `gives`: the state holds a new number. `stores`: the
+// setup's incarnation number is stored. The signals come first: so laid out, an event of the trace costs eighteen machine instructions
+// fewer.
 pub struct Effect {
     pub signals: [Signal; 4],
     pub state: State,

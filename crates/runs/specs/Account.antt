@@ -9,7 +9,8 @@ use lib.Dec.{eqb, ltb}
 use lib.ListN.{length}
 use Rattle.lent.specs.Keyed.{onRecord, replacedFor}
 use Rattle.signal.specs.Counting.{count}
-use Rattle.runs.specs.Run.{End, Does, opens, meets, KeyedRequest, Reply, Table, Control, tableAfter, emptyTable, callByKey, RefusalsAreSilent}
+use Rattle.runs.specs.Run.{Control, Does, End, KeyedRequest, RefusalsAreSilent, Reply, Table, callByKey, emptyTable, meets, opens}
+use Rattle.runs.specs.Run.{tableAfter}
 
 -- a call that has been: the numbers given to it, and the numbers ended, each as often as it was
 pub record Spell : Type 0 where
@@ -139,7 +140,8 @@ module _ (E : End) where
     pub stored : r .table ≡ replacedFor (E .key) k call ys
     pub lives : Lives k (callByKey E k ys) call
     pub balances : (x : ℕ) →
-        count x (E .held (callByKey E k ys)) + count x (givenBetween (callByKey E k ys) call) ≡ count x (E .held call) + count x (endedBy e r)
+        count x (E .held (callByKey E k ys)) + count x (givenBetween (callByKey E k ys) call)
+        ≡ count x (E .held call) + count x (endedBy e r)
     pub asks : (x : ℕ) → 1 ≤ x → count x (E .requested (r .signals)) ≤ count x (givenBetween (callByKey E k ys) call)
 
   pub record LawfulControl (C : Control E) : Type 0 where

@@ -14,7 +14,8 @@ use Rattle.runs.specs.Account.{emptyLog, oneTo, Settled, givenBetween, e
 module _ (E : End) where
   -- the account of a key at the end of a sequence from an empty table of n records
   abbrev pub AccountAt : Control E → ℕ → List (KeyedRequest E) → ℕ → Type 0
-  AccountAt C n requests k = Account E (callByKey E k (tableAfter E C (emptyTable E n) requests)) (logged E C k (emptyTable E n) emptyLog requests)
+  AccountAt C n requests k =
+      Account E (callByKey E k (tableAfter E C (emptyTable E n) requests)) (logged E C k (emptyTable E n) emptyLog requests)
 
   -- and at every point of it: wherever it is cut in two, the account of every key is kept at the end of the first part
   abbrev pub AccountedThroughout : Control E → ℕ → List (KeyedRequest E) → Type 0

@@ -49,7 +49,8 @@ module _ (E : End) where
     -- one that always returns the same by any two that are to be answered differently,
     abbrev pub ConstantBreaks : Type 0
     ConstantBreaks =
-        OneNumber E D → (r : Reply E) (ys zs : Table E) (a b : KeyedRequest E) (m n : ℕ) → D .Answers ys a m → D .Answers zs b n → (m ≡ n → ⊥) →
+        OneNumber E D → (r : Reply E) (ys zs : Table E) (a b : KeyedRequest E) (m n : ℕ) →
+        D .Answers ys a m → D .Answers zs b n → (m ≡ n → ⊥) →
         AnswersAt E D (constant r) ys a × AnswersAt E D (constant r) zs b → ⊥
 
     -- one that leaves the table by any request that is done and is to change it,

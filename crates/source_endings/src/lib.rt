@@ -1,5 +1,5 @@
-// The rows that end a call: a release from the calling side, and the expiry of the hard rerouting timer (6.2.4, 6.2.5.2). Direct code: each function returns
-// the row of the page, carried out.
+// The rows that end a call: a release from the calling side, and the expiry of the hard rerouting timer (6.2.4, 6.2.5.2). Direct code: each
+// function returns the row of the page, carried out.
 mod calling;
 mod expiry;
 

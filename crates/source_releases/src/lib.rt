@@ -1,11 +1,14 @@
-// The rows of a release from the called side, for a connection (6.2.4), as direct code: each function returns the row of the page, carried out.
+// The rows of a release from the called side, for a connection (6.2.4), as direct code: each function returns the row of the page, carried
+// out.
 ghost use mathlib.Core.Path.{_≡_};
 ghost use Rattle.signal.specs.Signals.{none};
 ghost use Rattle.rows.specs.declared.State.the-variants.{Idle, HardUnderway, SoftProceeding, SoftInitiated, Awaiting};
 ghost use Rattle.rows.specs.Cases.{classOf};
 ghost use Rattle.rows.specs.Effects.{doneIn, isNext};
-ghost use Rattle.source_rows.specs.Rows.{atSource, idleLost, hardAgain, hardAlternate, hardLost, softLost, softCrankback, initiatedLost, awaitingLost, awaitingDropped};
-ghost use Rattle.source_releases.specs.Effects.{calledEffect, idleCalled, initiatedCalled, awaitingCalled, toldOnly, toldBoth, hardEnded, toldAndReleased};
+ghost use Rattle.source_rows.specs.Rows.{atSource, idleLost, hardAgain, hardAlternate, hardLost, softLost, softCrankback};
+ghost use Rattle.source_rows.specs.Rows.{initiatedLost, awaitingLost, awaitingDropped};
+ghost use Rattle.source_releases.specs.Effects.{calledEffect, idleCalled, initiatedCalled, awaitingCalled};
+ghost use Rattle.source_releases.specs.Effects.{toldOnly, toldBoth, hardEnded, toldAndReleased};
 use rows::Class;
 use rows::Effect;
 use rows::State;

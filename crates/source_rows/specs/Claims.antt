@@ -19,8 +19,8 @@ use Rattle.source_rows.specs.Rows.{sourceRow}
 abbrev pub isFixed : Case → Bool
 isFixed c = conj (fixes sourcePapers c (sourceRow c))
 
--- Demand 2: at every case, any rule that keeps the laws and says what the papers say elsewhere (Annex D, Appendix C-1, 01's general sentences) is the row
--- of the page: over every service, cause and crankback, and at 65,535.
+-- Demand 2: at every case, any rule that keeps the laws and says what the papers say elsewhere (Annex D, Appendix C-1, 01's general
+-- sentences) is the row of the page: over every service, cause and crankback, and at 65,535.
 abbrev pub TheOnlyRow : Type 0
 TheOnlyRow = (c : Case) (rule : Rule) → conj (fixes sourcePapers c rule) ≡ true → rule ≡ sourceRow c
 
@@ -28,11 +28,13 @@ TheOnlyRow = (c : Case) (rule : Rule) → conj (fixes sourcePapers c rule) ≡ t
 abbrev pub PapersAreMet : Type 0
 PapersAreMet = (c : Case) → isFixed c ≡ true
 
--- Of an item in the papers' list for a case, wherever it stands there, and of an event that is done: where it speaks, it holds; one that 01 or a decision
--- departs from does not.
+-- Of an item in the papers' list for a case, wherever it stands there, and of an event that is done: where it speaks, it holds; one that 01
+-- or a decision departs from does not.
 pub record HoldsAt (c : Case) (before after : List Item) (item : Item) : Type 0 where
-  pub held : sourcePapers .items c ≡ before ++ (item ∷ after) → isDone (sourceRow c .answer) ≡ true → item .speaks c ≡ true → itemHolds item (sourceRow c) ≡ true
-  pub departed : sourcePapers .departed c ≡ before ++ (item ∷ after) → isDone (sourceRow c .answer) ≡ true → item .speaks c ≡ true → itemHolds item (sourceRow c) ≡ false
+  pub held : sourcePapers .items c ≡ before ++ (item ∷ after) → isDone (sourceRow c .answer) ≡ true → item .speaks c ≡ true →
+      itemHolds item (sourceRow c) ≡ true
+  pub departed : sourcePapers .departed c ≡ before ++ (item ∷ after) → isDone (sourceRow c .answer) ≡ true → item .speaks c ≡ true →
+      itemHolds item (sourceRow c) ≡ false
 
 -- Every item of the papers holds wherever it speaks, but for those that 01 or a decision departs from, which hold nowhere where they speak.
 abbrev pub EveryItemHolds : Type 0

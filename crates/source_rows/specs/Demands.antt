@@ -1,5 +1,5 @@
--- What the documents ask of the source node, in the words of 01: of a call and an event (`sourceDemands`), and the same by case (`sourceWants`). None of it
--- mentions a row. Proofs that the two agree: proofs/Agree.antt. Assumes nothing.
+-- What the documents ask of the source node, in the words of 01: of a call and an event (`sourceDemands`), and the same by case
+-- (`sourceWants`). None of it mentions a row. Proofs that the two agree: proofs/Agree.antt. Assumes nothing.
 use Prim.Native.Nat.{ℕ}
 use mathlib.Core.Bool.{Bool, _&&_, _||_, cond, false, not, true}
 use mathlib.Core.List.{List, [], _∷_}
@@ -36,8 +36,9 @@ isInitiated s = eqb (stateNumber s) 6
 abbrev pub isSoftProceeding : State → Bool
 isSoftProceeding s = eqb (stateNumber s) 5
 
--- 106: an event without meaning. A connect outside the two Proceeding states, a path answer outside the two Triggered states, "ready" outside Soft
--- Initiated, timer expiry outside the two Hard states, a soft trigger with soft none, a setup without symmetric soft; and any event in Null (decision 26)
+-- 106: an event without meaning. A connect outside the two Proceeding states, a path answer outside the two Triggered states, "ready"
+-- outside Soft Initiated, timer expiry outside the two Hard states, a soft trigger with soft none, a setup without symmetric soft; and any
+-- event in Null (decision 26)
 abbrev pub meaningless : Soft → State → Event → Bool
 meaningless soft s Trigger = isNull s || not (hasSoft soft)
 meaningless soft s PathFound = not (isTriggered s)

@@ -1,6 +1,7 @@
--- The rows of the source node (6.2), the whole table: for each event, what is done in each state. To be held against 01, "Events and rows", and sections
--- 6.2.4 to 6.2.7; "decision N" is a point of docs/DECISIONS.md. The states have the source's own names; the party is the calling one, and the release
--- from across the domain is the called side's. A clause that refuses names 106, 107 or 108 (01, "Numbers of refusal"). Assumes nothing.
+-- The rows of the source node (6.2), the whole table: for each event, what is done in each state. To be held against 01, "Events and rows",
+-- and sections 6.2.4 to 6.2.7; "decision N" is a point of docs/DECISIONS.md. The states have the source's own names; the party is the
+-- calling one, and the release from across the domain is the called side's. A clause that refuses names 106, 107 or 108 (01, "Numbers of
+-- refusal"). Assumes nothing.
 use Prim.Native.Nat.{_+_}
 use mathlib.Core.Bool.{Bool, cond, true}
 use Rattle.signal.specs.declared.Answer.the-variants.{NoMeaning, NotHeld, NumbersSpent}
@@ -48,11 +49,13 @@ triggerRow phase Asymmetric = triggerIn phase
 triggerRow phase Symmetric = triggerIn phase
 
 -- ---- path found, no path (01; 6.2.5.1, 6.2.5.3)
--- a setup goes out on a new connection, to the Proceeding state of the same kind; 108 where there is no number; 106 outside the Triggered states
+-- a setup goes out on a new connection, to the Proceeding state of the same kind; 108 where there is no number; 106 outside the Triggered
+-- states
 abbrev pub pathRow : Phase → Bool → Rule
 pathRow Null room = refuses NoMeaning Null
 pathRow Idle room = refuses NoMeaning Idle
-pathRow HardTriggered room = cond room (closed (SendsSetup NewNumber) (to HardProceeding NoSlot NewNumber)) (refuses NumbersSpent HardTriggered)
+pathRow HardTriggered room =
+    cond room (closed (SendsSetup NewNumber) (to HardProceeding NoSlot NewNumber)) (refuses NumbersSpent HardTriggered)
 pathRow HardProceeding room = refuses NoMeaning HardProceeding
 pathRow SoftTriggered room =
     cond room (closed (SendsSetup NewNumber) (to SoftProceeding OldIncumbent NewNumber)) (refuses NumbersSpent SoftTriggered)
@@ -214,8 +217,8 @@ callingRow SoftInitiated hard class = bothEnded (passing hard class)
 callingRow Awaiting hard class = bothEnded (passing hard class)
 
 -- ---- release from the called side, for a connection (01; 6.2.4.2 to 6.2.4.8)
--- Idle. None and hard on: timer start, Hard Triggered (6.2.4.2 case 4); else the calling side: #1 as received, another #2, none absent (case 3;
--- decisions 5 and 6)
+-- Idle. None and hard on: timer start, Hard Triggered (6.2.4.2 case 4); else the calling side: #1 as received, another #2, none absent
+-- (case 3; decisions 5 and 6)
 abbrev pub idleLost : Bool → Class → Rule
 idleLost hard CameNone = cond hard (starting (to HardTriggered NoSlot NoSlot)) (telling SaysNothing ends)
 idleLost hard CameOutside = telling SaysAsCame ends
@@ -254,7 +257,8 @@ softTriggeredLost = telling SaysNothing ends
 abbrev pub bothReleased : Saying → Rule
 bothReleased say = telling say (dropping (with say) ends)
 
--- Soft Proceeding, the incumbent (01; D17-4 to 7): #1 as the number 1, another #2, none: timer start, Hard Proceeding; with hard off no cause
+-- Soft Proceeding, the incumbent (01; D17-4 to 7): #1 as the number 1, another #2, none: timer start, Hard Proceeding; with hard off no
+-- cause
 abbrev pub softLostHardOn : Class → Rule
 softLostHardOn CameNone = starting (to HardProceeding NoSlot OldRerouting)
 softLostHardOn CameOutside = bothReleased Says1
@@ -271,7 +275,8 @@ softCrankback AlternateFound room =
     cond room (closed (SendsSetup NewNumber) (to SoftProceeding OldIncumbent NewNumber)) backToIdle
 softCrankback NoAlternate room = backToIdle
 
--- Soft Initiated, the incumbent (01; D18-4 to 7): as Soft Proceeding, but none: timer start, rerouting released with code #21, Hard Triggered
+-- Soft Initiated, the incumbent (01; D18-4 to 7): as Soft Proceeding, but none: timer start, rerouting released with code #21, Hard
+-- Triggered
 abbrev pub initiatedLostHardOn : Class → Rule
 initiatedLostHardOn CameNone = starting (dropping turnedAway (to HardTriggered NoSlot NoSlot))
 initiatedLostHardOn CameOutside = bothReleased Says1

@@ -100,7 +100,10 @@ fn setup_checked(code: Switchover, number: u32, remote: u32, next: Fresh, state:
 
 // In Null no event has a meaning.
 fn setup_met(code: Switchover, number: u32, remote: u32, next: Fresh, state: State) -> Effect
-    ensures { λ r. ⌜ r ≡ atSource state next NoCause (inCall (phaseOf state) (setupAsked (askingOf code) (isLate number remote) (phaseOf state) (isNext next))) ⌝ }
+    ensures { λ r. ⌜
+        r ≡ atSource state next NoCause
+        (inCall (phaseOf state) (setupAsked (askingOf code) (isLate number remote) (phaseOf state) (isNext next)))
+        ⌝ }
 {
     match state {
         State::Null => Effect::refused(Answer::NoMeaning, state),
