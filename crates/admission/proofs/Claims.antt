@@ -8,14 +8,14 @@ use borrow.Author.Tests.{eq-eqb, eqb-false, eqb-true, ne-eqb}
 use Rattle.signal.specs.declared.Answer.the-variants.{KeyZero}
 use Rattle.events.specs.declared.Act.{Act}
 use Rattle.events.specs.declared.Act.the-variants.{Meets, Opens}
-use Rattle.admission.specs.Claims.{refusalOf}
+use Rattle.admission.specs.Claims.{refusalNumber}
 use Rattle.admission.specs.Admission.{actAdmitted, admissionOf}
 use Rattle.admission.specs.declared.Admission.{Admission}
 use Rattle.admission.specs.declared.Admission.the-variants.{Refuses}
 use Rattle.admission.specs.Claims as claim
 
 -- no check behind the first gives its number
-not-102 : (act : Act) (missing full : Bool) → refusalOf (actAdmitted act missing full) ≡ 102 → ⊥
+not-102 : (act : Act) (missing full : Bool) → refusalNumber (actAdmitted act missing full) ≡ 102 → ⊥
 not-102 (Opens wanted) true true h = omega arith
 not-102 (Opens wanted) true false h = omega arith
 not-102 (Opens wanted) false full h = omega arith
@@ -25,7 +25,7 @@ not-102 (Meets e) false full h = omega arith
 pub refused-102 : claim.Refused102
 refused-102 key act missing full = (by-key (eqb key 0) refl, λ e. rw (eq-eqb key 0 e))
   where
-    by-key : (b : Bool) → eqb key 0 ≡ b → refusalOf (cond b (Refuses KeyZero) (actAdmitted act missing full)) ≡ 102 → key ≡ 0
+    by-key : (b : Bool) → eqb key 0 ≡ b → refusalNumber (cond b (Refuses KeyZero) (actAdmitted act missing full)) ≡ 102 → key ≡ 0
     by-key true t h = eqb-true key 0 t
     by-key false t h = absurd (not-102 act missing full h)
 

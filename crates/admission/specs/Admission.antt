@@ -1,5 +1,5 @@
--- What the keys of a table say of an opening or event (01, "Numbers of refusal", 102 to 105), of plain values: the key, whether it is missing from the
--- table, and whether the table is full, so that no record is empty. Assumes nothing.
+-- What the keys of a table say of an opening or event (01, "Numbers of refusal", 102 to 105), of plain values: the key, whether it is
+-- missing from the table, and whether the table is full, so that no record is empty. Assumes nothing.
 use Prim.Native.Nat.{ℕ}
 use mathlib.Core.Bool.{Bool, cond}
 use lib.Dec.{eqb}
@@ -13,10 +13,10 @@ use Rattle.admission.specs.declared.Admission.{Admission}
 use Rattle.admission.specs.declared.Admission.the-variants.{Reaches, Refuses, Takes}
 
 -- the answer of a refusal, and 0 where nothing is refused yet
-abbrev pub answerIn : Admission → Answer
-answerIn (Refuses a) = a
-answerIn (Takes wanted) = Done
-answerIn (Reaches e) = Done
+abbrev pub refusalIn : Admission → Answer
+refusalIn (Refuses a) = a
+refusalIn (Takes wanted) = Done
+refusalIn (Reaches e) = Done
 
 -- 103 where the key is on record, before 104 (decision 14)
 abbrev pub openingAdmitted : Wanted → Bool → Bool → Admission

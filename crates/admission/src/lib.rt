@@ -1,7 +1,7 @@
-// What the keys of a table say of an opening or event, at either end of a call: a refusal with 102 to 105, or to which record it goes. It is decided
-// here alone and on plain values, for the lent row of records and for the table of a trace.
+// What the keys of a table say of an opening or event, at either end of a call: a refusal with 102 to 105, or to which record it goes. It
+// is decided here alone and on plain values, for the lent row of records and for the table of a trace.
 ghost use mathlib.Core.Path.{_≡_};
-ghost use Rattle.admission.specs.Admission.{answerIn, openingAdmitted, eventAdmitted, admissionOf};
+ghost use Rattle.admission.specs.Admission.{refusalIn, openingAdmitted, eventAdmitted, admissionOf};
 use events::Act;
 use events::Event;
 use signal::Answer;
@@ -17,8 +17,8 @@ pub enum Admission {
 
 impl Admission {
     // The answer of a refusal; 0 where nothing is refused yet.
-    pub fn answer(self) -> Answer
-        ensures { λ r. ⌜ r ≡ answerIn self ⌝ }
+    pub fn refusal(self) -> Answer
+        ensures { λ r. ⌜ r ≡ refusalIn self ⌝ }
     {
         match self {
             Admission::Refuses(answer) => answer,

@@ -2,16 +2,16 @@
 use mathlib.Core.Path.{refl}
 use Rattle.lent.specs.Search.{readFrom}
 use Rattle.distinct.specs.Distinct.{has, distinctOf}
-use Rattle.source_table.specs.Bench.{benchRun, after, benchShown, BenchRun}
+use Rattle.source_table.specs.Bench.{benchRun, benchAfter, benchShown, BenchRun}
 
 pub bench-1 : BenchRun 0
-unfolding benchRun after benchShown readFrom has distinctOf
+unfolding benchRun benchAfter benchShown readFrom has distinctOf
 bench-1 = refl
 
 pub bench-64 : BenchRun 63
-unfolding benchRun after benchShown readFrom has distinctOf
+unfolding benchRun benchAfter benchShown readFrom has distinctOf
 bench-64 = refl
 
 pub bench-1024 : BenchRun 1023
-unfolding benchRun after benchShown readFrom has distinctOf
+unfolding benchRun benchAfter benchShown readFrom has distinctOf
 bench-1024 = refl

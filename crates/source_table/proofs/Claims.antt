@@ -24,9 +24,9 @@ use Rattle.call.specs.declared.Call.{Call}
 use Rattle.source_table.proofs.Decided.{Placed, decided, ran-is}
 use Rattle.source_table.proofs.Search.{FoundAt, call-of, first, found-at, on-record, sought-is, stands-on-record}
 use Rattle.source_table.proofs.Stored.{event-changes-its-call, opening-takes-its-record}
-use Rattle.source_table.specs.Claims.{callOf, onRecord}
+use Rattle.source_table.specs.Claims.{callOf, hasCall}
 use Rattle.source_table.specs.Fit.{fitTable}
-use Rattle.source_table.specs.Table.{callIn, carriedOut, decideFitOf, isNothing, placedAt, ranFitOf, ranOf, refusedAt, tableOf}
+use Rattle.source_table.specs.Table.{callIn, ranBy, decideFitOf, isNothing, placedAt, ranFitOf, ranOf, refusedAt, tableOf}
 use Rattle.source_table.specs.declared.Found.{Found}
 use Rattle.source_table.specs.declared.Found.the-variants.{At, Nothing}
 use Rattle.source_table.specs.declared.Ran.{Ran}
@@ -78,7 +78,7 @@ module _ (half : Half) (L : Lawful half) where
   answerBy c known free (Opens wanted) = cond known 103 (cond (not free) 104 0)
   answerBy c known free (Meets e) = cond (not known) 105 (answerNumber (handledAt half c e .answer))
 
-  wanted-is : (ys : List Call) (key : ℕ) (act : Act) → answerBy (callOf key ys) (onRecord key ys) (onRecord 0 ys) act ≡ claim.answerFor half ys key act
+  wanted-is : (ys : List Call) (key : ℕ) (act : Act) → answerBy (callOf key ys) (hasCall key ys) (hasCall 0 ys) act ≡ claim.answerFor half ys key act
   wanted-is ys key (Opens wanted) = refl
   wanted-is ys key (Meets e) = refl
 
@@ -89,7 +89,7 @@ module _ (half : Half) (L : Lawful half) where
   answer-by-found n key act found free = by-key (eqb key 0) act found free
     where
       by-key : (b : Bool) (act : Act) (found free : Found) →
-          answerNumber (carriedOut half n (record { found = found; free = free }) key
+          answerNumber (ranBy half n (record { found = found; free = free }) key
           (cond b (Refuses KeyZero) (actAdmitted act (isNothing found) (isNothing free))) .done .answer)
           ≡ cond b 102 (answerBy (callIn found) (not (isNothing found)) (not (isNothing free)) act)
       by-key true act found free = refl
@@ -114,11 +114,11 @@ module _ (half : Half) (L : Lawful half) where
   found-anywhere ys i l = stands-on-record (getD ys i emptied .key) i ys l refl
 
   -- a record with another key stays where one is replaced
-  replaced-other : (k : ℕ) (d : Call) (ys : List Call) (i : ℕ) → (getD ys i emptied .key ≡ k → ⊥) → getD (claim.replacedFor k d ys) i emptied ≡ getD ys i emptied
+  replaced-other : (k : ℕ) (d : Call) (ys : List Call) (i : ℕ) → (getD ys i emptied .key ≡ k → ⊥) → getD (claim.callReplaced k d ys) i emptied ≡ getD ys i emptied
   replaced-other k d [] i n = refl
   replaced-other k d (c ∷ cs) i n = by-test (replaced-other k d cs) i n (eqb (c .key) k) refl
     where
-      by-test : ((i : ℕ) → (getD cs i emptied .key ≡ k → ⊥) → getD (claim.replacedFor k d cs) i emptied ≡ getD cs i emptied) → (i : ℕ) → (getD (c ∷ cs) i emptied .key ≡ k → ⊥) → (b : Bool) → eqb (c .key) k ≡ b → getD (cond b (d ∷ cs) (c ∷ claim.replacedFor k d cs)) i emptied ≡ getD (c ∷ cs) i emptied
+      by-test : ((i : ℕ) → (getD cs i emptied .key ≡ k → ⊥) → getD (claim.callReplaced k d cs) i emptied ≡ getD cs i emptied) → (i : ℕ) → (getD (c ∷ cs) i emptied .key ≡ k → ⊥) → (b : Bool) → eqb (c .key) k ≡ b → getD (cond b (d ∷ cs) (c ∷ claim.callReplaced k d cs)) i emptied ≡ getD (c ∷ cs) i emptied
       by-test onward zero n true t = absurd (n (eqb-true (c .key) k t))
       by-test onward (suc i) n true t = refl
       by-test onward zero n false t = refl

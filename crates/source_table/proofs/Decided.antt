@@ -20,7 +20,7 @@ use Rattle.call.specs.Record.{openedFor}
 use Rattle.call.specs.declared.Call.{Call}
 use Rattle.source_table.proofs.Search.{first, seen-is, sought-is}
 use Rattle.source_table.specs.Fit.{fitKeys, fitTable}
-use Rattle.source_table.specs.Table.{carriedOut, decideOf, isNothing, placedAt, ranFitOf, ranOf, refusedAt}
+use Rattle.source_table.specs.Table.{ranBy, decideOf, isNothing, placedAt, ranFitOf, ranOf, refusedAt}
 use Rattle.source_table.specs.declared.Found.{Found}
 use Rattle.source_table.specs.declared.Found.the-variants.{At, Nothing}
 use Rattle.source_table.specs.declared.Ran.{Ran}
@@ -43,7 +43,7 @@ module _ (half : Half) where
     Placed (Meets e) = (i : ℕ) (c : Call) → (key ≡ 0 → ⊥) → first key 0 ys ≡ At i c → P (placedAt i (handledAt half c e))
 
     by-found : Refused → (act : Act) → Placed act → (key ≡ 0 → ⊥) → (found free : Found) → first key 0 ys ≡ found → first 0 0 ys ≡ free →
-        P (carriedOut half (length ys) (record { found = found; free = free }) key (actAdmitted act (isNothing found) (isNothing free)))
+        P (ranBy half (length ys) (record { found = found; free = free }) key (actAdmitted act (isNothing found) (isNothing free)))
     by-found refused (Opens wanted) placed z (At i c) free p q = refused KeyOnRecord (λ h. omega arith)
     by-found refused (Opens wanted) placed z Nothing (At i c) p q = placed i c z p q
     by-found refused (Opens wanted) placed z Nothing Nothing p q = refused NoEmptyRecord (λ h. omega arith)
@@ -51,7 +51,7 @@ module _ (half : Half) where
     by-found refused (Meets e) placed z Nothing free p q = refused KeyNotOnRecord (λ h. omega arith)
 
     by-key : Refused → (act : Act) → Placed act → (b : Bool) → eqb key 0 ≡ b →
-        P (carriedOut half (length ys) (record { found = first key 0 ys; free = first 0 0 ys }) key
+        P (ranBy half (length ys) (record { found = first key 0 ys; free = first 0 0 ys }) key
         (cond b (Refuses KeyZero) (actAdmitted act (isNothing (first key 0 ys)) (isNothing (first 0 0 ys)))))
     by-key refused act placed true t = refused KeyZero (λ h. omega arith)
     by-key refused act placed false t = by-found refused act placed (eqb-false key 0 t) (first key 0 ys) (first 0 0 ys) refl refl

@@ -20,7 +20,7 @@ use Rattle.call.specs.declared.Call.{Call}
 use Rattle.source_table.proofs.Claims.{answers-in-order}
 use Rattle.source_table.proofs.Fit.{fit-exactly}
 use Rattle.source_table.proofs.Search.{stands-on-record}
-use Rattle.source_table.specs.Claims.{Check, FirstOf, Stands, answerFor, callOf, checks, onRecord}
+use Rattle.source_table.specs.Claims.{Check, FirstOf, Stands, answerFor, callOf, checks, hasCall}
 use Rattle.source_table.specs.Fit.{fitTable}
 use Rattle.source_table.specs.Claims as claim
 use Rattle.call.proofs.Claims as any
@@ -39,15 +39,15 @@ tested true c n cs holds fails more = inl (holds refl, refl)
 tested false c n cs holds fails more = inr (fails refl, more refl)
 
 -- a key stands at a place exactly where the row is found to have it
-stands : (k : ℕ) (ys : List Call) → onRecord k ys ≡ true → Stands k ys
+stands : (k : ℕ) (ys : List Call) → hasCall k ys ≡ true → Stands k ys
 stands k [] h = absurd (false≢true h)
 stands k (c ∷ cs) h = by-test (eqb (c .key) k) refl h (stands k cs)
   where
-    by-test : (b : Bool) → eqb (c .key) k ≡ b → (b || onRecord k cs) ≡ true → (onRecord k cs ≡ true → Stands k cs) → Stands k (c ∷ cs)
+    by-test : (b : Bool) → eqb (c .key) k ≡ b → (b || hasCall k cs) ≡ true → (hasCall k cs ≡ true → Stands k cs) → Stands k (c ∷ cs)
     by-test true e t rest = (0, (suc-le-suc zero-le, eqb-true (c .key) k e))
     by-test false e t rest = let s = rest t in (suc (s .0), (suc-le-suc (s .1 .0), s .1 .1))
 
-stands-not : (k : ℕ) (ys : List Call) → onRecord k ys ≡ false → Stands k ys → ⊥
+stands-not : (k : ℕ) (ys : List Call) → hasCall k ys ≡ false → Stands k ys → ⊥
 stands-not k ys h s = true≢false (sym (stands-on-record k (s .0) ys (s .1 .0) (s .1 .1)) ∙ h)
 
 module _ (half : Half) (L : Lawful half) where
@@ -64,8 +64,8 @@ module _ (half : Half) (L : Lawful half) where
   -- an opening: 103, then 104
   opening-given : (ys : List Call) (key : ℕ) (wanted : Wanted) → FirstOf (answerFor half ys key (Opens wanted)) (later ys key (Opens wanted))
   opening-given ys key wanted =
-      tested (onRecord key ys) _ _ (drop 3 (checks half ys key (Opens wanted))) (stands key ys) (stands-not key ys)
-      (λ _. tested (not (onRecord 0 ys)) _ 0 (drop 4 (checks half ys key (Opens wanted))) (λ full. stands-not 0 ys (not-true _ full)) (λ free none. none (stands 0 ys (not-false _ free)))
+      tested (hasCall key ys) _ _ (drop 3 (checks half ys key (Opens wanted))) (stands key ys) (stands-not key ys)
+      (λ _. tested (not (hasCall 0 ys)) _ 0 (drop 4 (checks half ys key (Opens wanted))) (λ full. stands-not 0 ys (not-true _ full)) (λ free none. none (stands 0 ys (not-false _ free)))
       (λ _. inr (λ x. x, inr (λ x. x, inr (λ x. x, inr (λ x. x, refl))))))
 
   -- what the record of the key answers: 106, 107, 108 or 0
@@ -95,7 +95,7 @@ module _ (half : Half) (L : Lawful half) where
         λ x. x,
         inr (
           λ x. x,
-          tested (not (onRecord key ys)) _ _ (ofRecord (callOf key ys) e) (λ missing. stands-not key ys (not-true _ missing)) (λ found none. none (stands key ys (not-false _ found)))
+          tested (not (hasCall key ys)) _ _ (ofRecord (callOf key ys) e) (λ missing. stands-not key ys (not-true _ missing)) (λ found none. none (stands key ys (not-false _ found)))
               (λ _. record-given (callOf key ys) e),
         ),
       )

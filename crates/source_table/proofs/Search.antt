@@ -11,7 +11,7 @@ use borrow.Author.Tests.{eq-eqb, eqb-false, eqb-true}
 use Rattle.lent.specs.Search.{firstFrom, readFrom}
 use Rattle.call.specs.Record.{emptied}
 use Rattle.call.specs.declared.Call.{Call}
-use Rattle.source_table.specs.Claims.{callOf, onRecord}
+use Rattle.source_table.specs.Claims.{callOf, hasCall}
 use Rattle.source_table.specs.Fit.{everyFit, fitRecord}
 use Rattle.source_table.specs.Table.{callIn, isNothing, laterOf, seenOf, soughtAtStart, soughtIn, soughtOf, startOf, stepOf}
 use Rattle.source_table.specs.declared.Found.{Found}
@@ -92,13 +92,13 @@ found-at k i j c (d ∷ ds) p = by-test (found-at k (i + 1) j c ds) (eqb (d .key
         let r : FoundAt k (i + 1) j c ds = onward q in
         record { place = suc (r .place); at = omega (arith, r .at); inside = omega (arith, r .inside); there = r .there; named = r .named; before = before-it d ds k (r .place) (eqb-false (d .key) k t) (r .before) }
 
-pub on-record : (k i : ℕ) (ys : List Call) → not (isNothing (first k i ys)) ≡ onRecord k ys
+pub on-record : (k i : ℕ) (ys : List Call) → not (isNothing (first k i ys)) ≡ hasCall k ys
 unfolding firstFrom
 on-record k i [] = refl
 on-record k i (c ∷ cs) = by-test (on-record k (i + 1) cs) (eqb (c .key) k)
   where
-    by-test : not (isNothing (first k (i + 1) cs)) ≡ onRecord k cs → (b : Bool) →
-        not (isNothing (cond b (At i c) (first k (i + 1) cs))) ≡ (b || onRecord k cs)
+    by-test : not (isNothing (first k (i + 1) cs)) ≡ hasCall k cs → (b : Bool) →
+        not (isNothing (cond b (At i c) (first k (i + 1) cs))) ≡ (b || hasCall k cs)
     by-test h true = refl
     by-test h false = h
 
@@ -116,7 +116,7 @@ or-true-by true p = refl
 or-true-by false p = p
 
 -- on record, by place
-pub stands-on-record : (k i : ℕ) (ys : List Call) → i < length ys → getD ys i emptied .key ≡ k → onRecord k ys ≡ true
+pub stands-on-record : (k i : ℕ) (ys : List Call) → i < length ys → getD ys i emptied .key ≡ k → hasCall k ys ≡ true
 stands-on-record k i [] l e = absurd (not-suc-le-zero l)
 stands-on-record k zero (c ∷ cs) l e = rw (eq-eqb (c .key) k e)
 stands-on-record k (suc i) (c ∷ cs) l e = or-true-by (eqb (c .key) k) (stands-on-record k i cs (le-of-suc-le-suc l) e)

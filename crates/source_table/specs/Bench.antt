@@ -1,5 +1,5 @@
--- The bench run of 01, B1 to B14, in a single statement over the list: events, answers, signals, states and record numbers as the document prints them, for calls by
--- key 7 with hard on and symmetric soft, in a row of any length. Assumes nothing.
+-- The bench run of 01, B1 to B14, in a single statement over the list: events, answers, signals, states and record numbers as the document
+-- prints them, for calls by key 7 with hard on and symmetric soft, in a row of any length. Assumes nothing.
 use Prim.Native.Nat.{ℕ}
 use mathlib.Core.Bool.{true}
 use mathlib.Core.List.{List, [], _∷_}
@@ -27,21 +27,21 @@ use Rattle.call.specs.declared.Call.{Call}
 use Rattle.source_table.specs.Table.{ranOf, tableOf}
 
 -- what a step of a run shows: the answer's number, the signals, and the whole row
-pub record Step : Type 0 where
+pub record BenchStep : Type 0 where
   pub answer : ℕ
   pub signals : List Signal
   pub table : List Call
 
 -- acts on key 7, one after the other
-abbrev pub runOf : List Act → List Call → List Step
-runOf [] ys = []
-runOf (act ∷ more) ys =
+abbrev pub benchSteps : List Act → List Call → List BenchStep
+benchSteps [] ys = []
+benchSteps (act ∷ more) ys =
     record {
       answer = answerNumber (ranOf sourceHalf ys 7 act .done .answer);
       signals = ranOf sourceHalf ys 7 act .done .signals;
       table = tableOf sourceHalf ys 7 act;
     }
-    ∷ runOf more (tableOf sourceHalf ys 7 act)
+    ∷ benchSteps more (tableOf sourceHalf ys 7 act)
 
 abbrev pub clearing : Switchover
 clearing = record { code = 1 }
@@ -49,13 +49,13 @@ clearing = record { code = 1 }
 abbrev pub immediate : Switchover
 immediate = record { code = 0 }
 
-abbrev pub both : Act
-both = Opens (Named (record { hard = true; soft = Symmetric }))
+abbrev pub openBoth : Act
+openBoth = Opens (Named (record { hard = true; soft = Symmetric }))
 
 -- B1 to B14
 unfoldable pub benchRun : List Act
 benchRun =
-    both
+    openBoth
     ∷ Meets (Setup clearing 3)
     ∷ Meets Ready
     ∷ Meets (Setup clearing 3)
@@ -68,12 +68,12 @@ benchRun =
     ∷ Meets PathFound
     ∷ Meets (Setup clearing 6)
     ∷ Meets (Connect 4 true)
-    ∷ both
+    ∷ openBoth
     ∷ []
 
 -- the row after a step: the call in a state, with its last number and its record number, and the other records empty
-unfoldable pub after : List Call → ℕ → List Signal → State → ℕ → ℕ → Step
-after others answer sent s last remote =
+unfoldable pub benchAfter : List Call → ℕ → List Signal → State → ℕ → ℕ → BenchStep
+benchAfter others answer sent s last remote =
     record {
       answer = answer;
       signals = places sent;
@@ -81,38 +81,38 @@ after others answer sent s last remote =
     }
 
 -- as 01 prints them: answer, signals, state with (incumbent, rerouting), last number given, record number
-unfoldable pub benchShown : List Call → List Step
+unfoldable pub benchShown : List Call → List BenchStep
 benchShown others =
     -- B1
-    after others 0 [] (Idle 1) 1 0
+    benchAfter others 0 [] (Idle 1) 1 0
     -- B2
-    ∷ after others 0 [] (SoftInitiated 1 2) 2 3
+    ∷ benchAfter others 0 [] (SoftInitiated 1 2) 2 3
     -- B3
-    ∷ after others 0 (connectOn 2 ∷ []) (Awaiting 1 2) 2 3
+    ∷ benchAfter others 0 (connectOn 2 ∷ []) (Awaiting 1 2) 2 3
     -- B4
-    ∷ after others 0 (rejection oldNumber ∷ []) (Awaiting 1 2) 2 3
+    ∷ benchAfter others 0 (rejection oldNumber ∷ []) (Awaiting 1 2) 2 3
     -- B5
-    ∷ after others 0 (rejection unsupported ∷ []) (Awaiting 1 2) 2 3
+    ∷ benchAfter others 0 (rejection unsupported ∷ []) (Awaiting 1 2) 2 3
     -- B6
-    ∷ after others 0 (releaseOf ReroutingRelease 2 Absent ∷ []) (SoftInitiated 1 3) 3 5
+    ∷ benchAfter others 0 (releaseOf ReroutingRelease 2 Absent ∷ []) (SoftInitiated 1 3) 3 5
     -- B7
-    ∷ after others 0 (connectOn 3 ∷ []) (Awaiting 1 3) 3 5
+    ∷ benchAfter others 0 (connectOn 3 ∷ []) (Awaiting 1 3) 3 5
     -- B8
-    ∷ after others 0 (switchTo 3 ∷ []) (Idle 3) 3 5
+    ∷ benchAfter others 0 (switchTo 3 ∷ []) (Idle 3) 3 5
     -- B9
-    ∷ after others 107 [] (Idle 3) 3 5
+    ∷ benchAfter others 107 [] (Idle 3) 3 5
     -- B10
-    ∷ after others 0 [] (SoftTriggered 3) 3 5
+    ∷ benchAfter others 0 [] (SoftTriggered 3) 3 5
     -- B11
-    ∷ after others 0 (setupOn 4 ∷ []) (SoftProceeding 3 4) 4 5
+    ∷ benchAfter others 0 (setupOn 4 ∷ []) (SoftProceeding 3 4) 4 5
     -- B12
-    ∷ after others 0 (rejection inProgress ∷ []) (SoftProceeding 3 4) 4 5
+    ∷ benchAfter others 0 (rejection inProgress ∷ []) (SoftProceeding 3 4) 4 5
     -- B13
-    ∷ after others 0 (switchTo 4 ∷ releaseOf IncumbentRelease 3 (Numbered complete) ∷ []) (Idle 4) 4 5
+    ∷ benchAfter others 0 (switchTo 4 ∷ releaseOf IncumbentRelease 3 (Numbered complete) ∷ []) (Idle 4) 4 5
     -- B14
-    ∷ after others 103 [] (Idle 4) 4 5
+    ∷ benchAfter others 103 [] (Idle 4) 4 5
     ∷ []
 
 -- the statement, for a row of one record and `more` beside it
 abbrev pub BenchRun : ℕ → Type 0
-BenchRun more = runOf benchRun (emptied ∷ replicate more emptied) ≡ benchShown (replicate more emptied)
+BenchRun more = benchSteps benchRun (emptied ∷ replicate more emptied) ≡ benchShown (replicate more emptied)

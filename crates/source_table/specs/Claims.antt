@@ -1,6 +1,6 @@
--- The claims on one opening or event over a lent row of records, at either end: any row, fit or not, any key and any act. `Ran` is what is decided, and `tableOf` the row after it: the
--- two that the contracts of `handle` and `handle64` fix. "01" is the scope document, a demand one of the three in README.md. Proofs: proofs/Fit.antt,
--- Stored.antt, Claims.antt, Given.antt and Kept.antt. Assumes nothing.
+-- The claims on one opening or event over a lent row of records, at either end: any row, fit or not, any key and any act. `Ran` is what is
+-- decided, and `tableOf` the row after it: the two that the contracts of `handle` and `handle64` fix. "01" is the scope document, a demand
+-- one of the three in README.md. Proofs: proofs/Fit.antt, Stored.antt, Claims.antt, Given.antt and Kept.antt. Assumes nothing.
 use Prim.Native.Nat.{_<_, _≤_, ℕ}
 use mathlib.Core.Bool.{Bool, cond, false, not, true}
 use mathlib.Core.List.{List, [], _∷_}
@@ -23,7 +23,8 @@ use Rattle.source_table.specs.Fit.{fitTable}
 use Rattle.source_table.specs.Table.{ranFitOf, ranOf, tableFitOf, tableOf}
 use Rattle.lent.specs.Keyed as keyed
 
--- 01, 101, of one record in use: it is not in Null, has a last number of at least 1, and its held numbers lie between 1 and the last and differ (`Sound`)
+-- 01, 101, of one record in use: it is not in Null, has a last number of at least 1, and its held numbers lie between 1 and the last and
+-- differ (`Sound`)
 pub record InUse (c : Call) : Type 0 where
   pub live : isNull (c .state) ≡ false
   pub given : 1 ≤ c .last
@@ -45,8 +46,8 @@ abbrev pub FitExactly : Type 0
 FitExactly = (ys : List Call) → (fitTable ys ≡ true) ↔ FitTable ys
 
 -- a key stands on record, and the call that it names (the first, which in a fit table is the only one)
-abbrev pub onRecord : ℕ → List Call → Bool
-onRecord k ys = keyed.onRecord (λ c. c .key) k ys
+abbrev pub hasCall : ℕ → List Call → Bool
+hasCall k ys = keyed.onRecord (λ c. c .key) k ys
 
 abbrev pub callOf : ℕ → List Call → Call
 callOf k ys = keyed.recordOf (λ c. c .key) emptied k ys
@@ -74,24 +75,25 @@ abbrev pub FirstOf : ℕ → List Check → Type 0
 FirstOf n [] = n ≡ 0
 FirstOf n (c ∷ cs) = (c .applies × (n ≡ c .number)) ⊎ ((c .applies → ⊥) × FirstOf n cs)
 
--- And it is the only one: two numbers that are the first of one list are equal, so each is given exactly when its check applies and none before it does.
+-- And it is the only one: two numbers that are the first of one list are equal, so each is given exactly when its check applies and none
+-- before it does.
 abbrev pub FirstIsOne : Type 1
 FirstIsOne = (cs : List Check) (m n : ℕ) → FirstOf m cs → FirstOf n cs → m ≡ n
 
 -- A key is on record wherever it stands.
 abbrev pub FoundAnywhere : Type 0
-FoundAnywhere = (ys : List Call) (i : ℕ) → i < length ys → onRecord (getD ys i emptied .key) ys ≡ true
+FoundAnywhere = (ys : List Call) (i : ℕ) → i < length ys → hasCall (getD ys i emptied .key) ys ≡ true
 
 -- the first record with a key replaced by another, and every other record as it was
-abbrev pub replacedFor : ℕ → Call → List Call → List Call
-replacedFor k d ys = keyed.replacedFor (λ c. c .key) k d ys
+abbrev pub callReplaced : ℕ → Call → List Call → List Call
+callReplaced k d ys = keyed.replacedFor (λ c. c .key) k d ys
 
 module _ (half : Half) where
-  -- 01, "Numbers of refusal", in the printed order. An opening: 103 where the key is on record, 104 where no record is empty. An event: 105 where the key is not on
-  -- record, then what the record of the key answers (106 to 108, or 0)
+  -- 01, "Numbers of refusal", in the printed order. An opening: 103 where the key is on record, 104 where no record is empty. An event: 105
+  -- where the key is not on record, then what the record of the key answers (106 to 108, or 0)
   abbrev pub answerFor : List Call → ℕ → Act → ℕ
-  answerFor ys key (Opens wanted) = cond (onRecord key ys) 103 (cond (not (onRecord 0 ys)) 104 0)
-  answerFor ys key (Meets e) = cond (not (onRecord key ys)) 105 (answerNumber (handledAt half (callOf key ys) e .answer))
+  answerFor ys key (Opens wanted) = cond (hasCall key ys) 103 (cond (not (hasCall 0 ys)) 104 0)
+  answerFor ys key (Meets e) = cond (not (hasCall key ys)) 105 (answerNumber (handledAt half (callOf key ys) e .answer))
 
   -- 101 where the table is unfit, then 102 where the key is 0
   abbrev pub answerWanted : List Call → ℕ → Act → ℕ
@@ -116,12 +118,13 @@ module _ (half : Half) where
       (ys : List Call) (key : ℕ) (act : Act) → fitTable ys ≡ true →
       (ranFitOf half ys key act ≡ ranOf half ys key act) × (tableFitOf half ys key act ≡ tableOf half ys key act)
 
-  -- 01, "Numbers of refusal": checks run in the printed order, and the first that applies is given; 0 exactly when none does. As a computation.
+  -- 01, "Numbers of refusal": checks run in the printed order, and the first that applies is given; 0 exactly when none does. As a
+  -- computation.
   abbrev pub AnswersInOrder : Type 0
   AnswersInOrder = (ys : List Call) (key : ℕ) (act : Act) → answered ys key act ≡ answerWanted ys key act
 
-  -- 01, "Numbers of refusal", line by line: the table is unfit; the key is 0; an opening's key is on record; no record is empty; an event's key is not on record; the
-  -- event means nothing to the call of the key; it names a connection that is not held; no number is left
+  -- 01, "Numbers of refusal", line by line: the table is unfit; the key is 0; an opening's key is on record; no record is empty; an event's
+  -- key is not on record; the event means nothing to the call of the key; it names a connection that is not held; no number is left
   abbrev pub checks : List Call → ℕ → Act → List Check
   checks ys key act =
       record { number = 101; applies = FitTable ys → ⊥ }
@@ -138,35 +141,38 @@ module _ (half : Half) where
   abbrev pub GivenExactly : Type 0
   GivenExactly = (ys : List Call) (key : ℕ) (act : Act) → FirstOf (answered ys key act) (checks ys key act)
 
-  -- 01, "The table and its records"; "Numbers of refusal", 0: an event that is done turns the record of its key into what the event makes of that call, leaves
-  -- every other record, and sends what that call sends.
+  -- 01, "The table and its records"; "Numbers of refusal", 0: an event that is done turns the record of its key into what the event makes
+  -- of that call, leaves every other record, and sends what that call sends.
   abbrev pub EventChangesItsCall : Type 0
   EventChangesItsCall =
       (ys : List Call) (key : ℕ) (e : Event) → answered ys key (Meets e) ≡ 0 →
-      (tableOf half ys key (Meets e) ≡ replacedFor key (handledAt half (callOf key ys) e .call) ys)
+      (tableOf half ys key (Meets e) ≡ callReplaced key (handledAt half (callOf key ys) e .call) ys)
       × (ranOf half ys key (Meets e) .done .signals ≡ handledAt half (callOf key ys) e .signals)
 
-  -- 01, "The table and its records"; "Numbers of refusal", 0: an opening that is done turns the first empty record into the new call under its key, leaves every
-  -- other record, and sends what an opening sends.
+  -- 01, "The table and its records"; "Numbers of refusal", 0: an opening that is done turns the first empty record into the new call under
+  -- its key, leaves every other record, and sends what an opening sends.
   abbrev pub OpeningTakesItsRecord : Type 0
   OpeningTakesItsRecord =
       (ys : List Call) (key : ℕ) (wanted : Wanted) → answered ys key (Opens wanted) ≡ 0 →
-      (tableOf half ys key (Opens wanted) ≡ replacedFor 0 (openedFor key wanted .call) ys)
+      (tableOf half ys key (Opens wanted) ≡ callReplaced 0 (openedFor key wanted .call) ys)
       × (ranOf half ys key (Opens wanted) .done .signals ≡ openedFor key wanted .signals)
 
-  -- 01, "The table and its records": the same by places. Where no record below the empty one at i is empty, an opening that is done stores at i, and only there.
+  -- 01, "The table and its records": the same by places. Where no record below the empty one at i is empty, an opening that is done stores
+  -- at i, and only there.
   abbrev pub TakesLowestEmpty : Type 0
   TakesLowestEmpty =
       (ys : List Call) (key : ℕ) (wanted : Wanted) → answered ys key (Opens wanted) ≡ 0 →
       (i : ℕ) → i < length ys → getD ys i emptied .key ≡ 0 → ((j : ℕ) → j < i → getD ys j emptied .key ≡ 0 → ⊥) →
       tableOf half ys key (Opens wanted) ≡ set ys i (openedFor key wanted .call)
 
-  -- 01, "The table and its records": whatever is done, a call under another key stays as it was, at its place; the row stays as long as it was.
+  -- 01, "The table and its records": whatever is done, a call under another key stays as it was, at its place; the row stays as long as it
+  -- was.
   abbrev pub OthersStay : Type 0
   OthersStay =
       (ys : List Call) (key : ℕ) (act : Act) →
       (length (tableOf half ys key act) ≡ length ys)
-      × ((i : ℕ) → (getD ys i emptied .key ≡ key → ⊥) → (getD ys i emptied .key ≡ 0 → ⊥) → getD (tableOf half ys key act) i emptied ≡ getD ys i emptied)
+      × ((i : ℕ) → (getD ys i emptied .key ≡ key → ⊥) → (getD ys i emptied .key ≡ 0 → ⊥) →
+      getD (tableOf half ys key act) i emptied ≡ getD ys i emptied)
 
   -- Demand 1 and 2: a fit table stays fit under every opening and event.
   abbrev pub StaysFit : Type 0

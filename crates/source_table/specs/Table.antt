@@ -1,5 +1,5 @@
--- One opening or event by key, over a row of records, at either end: the answer and signals, and the whole new row (01, "The table and its records", "Numbers of refusal").
--- Assumes nothing.
+-- One opening or event by key, over a row of records, at either end: the answer and signals, and the whole new row (01, "The table and its
+-- records", "Numbers of refusal"). Assumes nothing.
 use Prim.Native.Nat.{ℕ}
 use mathlib.Core.Bool.{Bool, _&&_, cond, false, true}
 use mathlib.Core.List.{List, []}
@@ -77,14 +77,14 @@ placedAt i o = record { done = record { answer = o .answer; signals = o .signals
 
 module _ (half : Half) where
   -- an admission, carried out: an opening takes the lowest empty record, and an event follows the row of the record with its key
-  abbrev pub carriedOut : ℕ → Sought → ℕ → Admission → Ran
-  carriedOut n s key (Refuses a) = refusedAt n a
-  carriedOut n s key (Takes wanted) = placedAt (placeIn n (s .free)) (openedFor key wanted)
-  carriedOut n s key (Reaches e) = placedAt (placeIn n (s .found)) (handledAt half (callIn (s .found)) e)
+  abbrev pub ranBy : ℕ → Sought → ℕ → Admission → Ran
+  ranBy n s key (Refuses a) = refusedAt n a
+  ranBy n s key (Takes wanted) = placedAt (placeIn n (s .free)) (openedFor key wanted)
+  ranBy n s key (Reaches e) = placedAt (placeIn n (s .found)) (handledAt half (callIn (s .found)) e)
 
   -- 102 to 105 come before anything of a record
   abbrev pub decideFitOf : ℕ → Sought → ℕ → Act → Ran
-  decideFitOf n s key act = carriedOut n s key (admissionOf key act (isNothing (s .found)) (isNothing (s .free)))
+  decideFitOf n s key act = ranBy n s key (admissionOf key act (isNothing (s .found)) (isNothing (s .free)))
 
   -- 101 first of all
   abbrev pub decideOf : ℕ → Seen → Bool → ℕ → Act → Ran

@@ -1,7 +1,7 @@
 // The table of source calls, lent as a row of records: openings and events by key, with the refusals 101 to 105 before the record's own.
 //
-// Few thin functions touch the lent row (survey, put, handle, look, handle_fit) and one the row by value (handle64): each is an instance of a walk of the crate
-// lent. All that they decide, covered code decides on plain values.
+// Few thin functions touch the lent row (survey, put, handle, look, handle_fit) and one the row by value (handle64): each is an instance of
+// a walk of the crate lent. All that they decide, covered code decides on plain values.
 ghost use mathlib.Core.Path.{_≡_};
 ghost use lib.Dec.{eqb};
 ghost use Rattle.call.specs.Events.{sourceHalf};
@@ -9,7 +9,9 @@ ghost use lib.ListN.{set};
 ghost use mathlib.Core.Bool.{not, _&&_};
 ghost use Rattle.rows.specs.declared.State.the-variants.{SoftProceeding};
 ghost use Rattle.source_table.specs.Fit.{isEmptied, isWithin, fitHeld, fitRecord};
-ghost use Rattle.source_table.specs.Table.{isNothing, placeIn, callIn, laterOf, soughtAtStart, soughtOf, soughtIn, startOf, stepOf, seenOf, keysOf, refusedAt, placedAt, decideFitOf, decideOf, ranOf, tableOf, ranFitOf, tableFitOf};
+ghost use Rattle.source_table.specs.Table.{isNothing, placeIn, callIn, laterOf, soughtAtStart, soughtOf, soughtIn, startOf, stepOf};
+ghost use Rattle.source_table.specs.Table.{seenOf, keysOf, refusedAt, placedAt, decideFitOf, decideOf};
+ghost use Rattle.source_table.specs.Table.{ranOf, tableOf, ranFitOf, tableFitOf};
 use admission::Admission;
 use call::Call;
 use call::Outcome;
@@ -42,7 +44,7 @@ pub struct Done {
 }
 
 // A table of 64 by value, with what was done.
-pub struct Sixty {
+pub struct SixtyFour {
     pub table: [Call; 64],
     pub done: Done,
 }
@@ -162,7 +164,8 @@ fn takes(found: Found, key: u32, c: Call) -> bool
     false
 }
 
-// What is found stays; else the record at i is, where it has the key. The one that stays is not written anew, so that a record that is passed over costs no copy (docs/SPEED.md).
+// What is found stays; else the record at i is, where it has the key. The one that stays is not written anew, so that a record that is
+// passed over costs no copy (docs/SPEED.md).
 fn later(found: Found, key: u32, i: usize, c: Call) -> Found
     ensures { λ r. ⌜ r ≡ laterOf found key i c ⌝ }
 {
@@ -222,7 +225,8 @@ fn step(s: Seen, key: u32, i: usize, c: Call) -> Seen
 
 // One reading: each record once, its key into the lent array.
 fn survey(t: &[Call], key: u32, keys: &mut [u32]) -> Seen
-    ensures { λ r. ⌜ (r ≡ seenOf (now (t .entry)) key) × (now (keys .exit) ≡ keysOf (now (keys .entry)) (now (t .entry))) ⌝ }
+    ensures { λ r. ⌜ (r ≡ seenOf (now (t .entry)) key)
+        × (now (keys .exit) ≡ keysOf (now (keys .entry)) (now (t .entry))) ⌝ }
 {
     let mut s = start(key);
     let mut i = 0;
@@ -317,7 +321,8 @@ fn decide(n: usize, s: Seen, ok: bool, key: u32, act: Act) -> Ran
 
 // One opening or event by key, over any row of records.
 pub fn handle(t: &mut [Call], key: u32, act: Act) -> Done
-    ensures { λ r. ⌜ (r ≡ ranOf sourceHalf (now (t .entry)) key act .done) × (now (t .exit) ≡ tableOf sourceHalf (now (t .entry)) key act) ⌝ }
+    ensures { λ r. ⌜ (r ≡ ranOf sourceHalf (now (t .entry)) key act .done)
+        × (now (t .exit) ≡ tableOf sourceHalf (now (t .entry)) key act) ⌝ }
 {
     let mut keys = [0u32; 1024];
     let s = survey(t, key, &mut keys);
@@ -330,7 +335,8 @@ pub fn handle(t: &mut [Call], key: u32, act: Act) -> Done
 
 // The same without the check of the table, for a row that is known to be fit.
 pub fn handle_fit(t: &mut [Call], key: u32, act: Act) -> Done
-    ensures { λ r. ⌜ (r ≡ ranFitOf sourceHalf (now (t .entry)) key act .done) × (now (t .exit) ≡ tableFitOf sourceHalf (now (t .entry)) key act) ⌝ }
+    ensures { λ r. ⌜ (r ≡ ranFitOf sourceHalf (now (t .entry)) key act .done)
+        × (now (t .exit) ≡ tableFitOf sourceHalf (now (t .entry)) key act) ⌝ }
 {
     let s = look(t, key);
     let d = decide_fit(t.len(), s, key, act);
@@ -339,10 +345,10 @@ pub fn handle_fit(t: &mut [Call], key: u32, act: Act) -> Done
 }
 
 // The checked entry over a table of 64 by value, for callers that need no walk of their own.
-pub fn handle64(table: [Call; 64], key: u32, act: Act) -> Sixty
+pub fn handle64(table: [Call; 64], key: u32, act: Act) -> SixtyFour
     ensures { λ r. ⌜ (r .done ≡ ranOf sourceHalf table key act .done) × (r .table ≡ tableOf sourceHalf table key act) ⌝ }
 {
     let mut t = table;
     let done = handle(&mut t, key, act);
-    Sixty { table: t, done }
+    SixtyFour { table: t, done }
 }

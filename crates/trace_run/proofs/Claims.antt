@@ -24,10 +24,10 @@ use Rattle.event_record.specs.declared.Request.the-variants.{Bad, Asks}
 use Rattle.event_record.specs.Record.{decodedOf}
 use Rattle.trace_line.specs.declared.Columns.{Columns}
 use Rattle.trace_line.specs.Line.{firstLine, numbersText, restText, lineText}
-use Rattle.trace_run.specs.Run.{Past, begin, after, onRequest, onDecoded, recordAt, shownOf, badText}
+use Rattle.trace_run.specs.Run.{Past, begin, afterRecords, onRequest, onDecoded, recordAt, shownOf, badLine}
 use Rattle.trace_run.specs.Story.{story}
 use Rattle.trace_run.specs.Claims as claim
-use Rattle.trace_run.specs.Claims.{Asked, Step, checkedRun, uncheckedRun, printedOf}
+use Rattle.trace_run.specs.Claims.{Asked, AfterOne, checkedRun, uncheckedRun, printedOf}
 use Rattle.trace_run.proofs.Empty.{empty-is-fit}
 use Rattle.trace_run.proofs.Steps.{still}
 
@@ -39,7 +39,7 @@ pub story-is-printed : claim.StoryIsPrinted
 unfolding story printedOf firstLine lineText numbersText restText numberText spelled onRequest recordAt shownOf readFrom has distinctOf
 story-is-printed = refl
 
-abbrev stepBy : Ran → List Call → Step
+abbrev stepBy : Ran → List Call → AfterOne
 stepBy d ys = record { answer = answerNumber (d .done .answer); signals = d .done .signals; table = ys }
 
 -- over a fit table, and so over every table that is reached from one
@@ -47,7 +47,7 @@ same-run : (asked : List Asked) (ys : List Call) → FitTable ys → checkedRun 
 same-run [] ys f = refl
 same-run (a ∷ more) ys f =
     let e = fit-needs-no-check ys (a .key) (a .act) (fit-exactly ys .1 f) in
-    ap (λ (l : List Step). stepBy (ranOf sourceHalf ys (a .key) (a .act)) (tableOf sourceHalf ys (a .key) (a .act)) ∷ l) (same-run more (tableOf sourceHalf ys (a .key) (a .act)) (step-stays-fit ys (a .key) (a .act) f))
+    ap (λ (l : List AfterOne). stepBy (ranOf sourceHalf ys (a .key) (a .act)) (tableOf sourceHalf ys (a .key) (a .act)) ∷ l) (same-run more (tableOf sourceHalf ys (a .key) (a .act)) (step-stays-fit ys (a .key) (a .act) f))
     ∙ (λ j. stepBy (sym (e .0) j) (sym (e .1) j) ∷ uncheckedRun more (sym (e .1) j))
 
 pub no-check-needed : claim.NoCheckNeeded
@@ -58,13 +58,13 @@ unfolding onRequest
 on-fit w p key Bad f = f
 on-fit w p key (Asks act) f = step-stays-fit (p .table) key act f
 
-by-good : (w : Columns) (s : List ℕ) (p : Past) (r : ℕ) (b : Bool) → FitTable (after w s p r .table) → FitTable (cond b (onDecoded w (after w s p r) (decodedOf (recordAt s (r * 16)))) (after w s p r) .table)
-by-good w s p r true f = on-fit w (after w s p r) (decodedOf (recordAt s (r * 16)) .key) (decodedOf (recordAt s (r * 16)) .request) f
+by-good : (w : Columns) (s : List ℕ) (p : Past) (r : ℕ) (b : Bool) → FitTable (afterRecords w s p r .table) → FitTable (cond b (onDecoded w (afterRecords w s p r) (decodedOf (recordAt s (r * 16)))) (afterRecords w s p r) .table)
+by-good w s p r true f = on-fit w (afterRecords w s p r) (decodedOf (recordAt s (r * 16)) .key) (decodedOf (recordAt s (r * 16)) .request) f
 by-good w s p r false f = f
 
-pub stays-fit : claim.StaysFit
+pub stays-fit : claim.RunStaysFit
 stays-fit w s p zero f = f
-stays-fit w s p (suc r) f = by-good w s p r (after w s p r .good) (stays-fit w s p r f)
+stays-fit w s p (suc r) f = by-good w s p r (afterRecords w s p r .good) (stays-fit w s p r f)
 
 pub bad-ends : claim.BadEnds
 bad-ends = still
@@ -82,7 +82,7 @@ behind front q = record { table = q .table; text = front ++ q .text; count = q .
 
 on-behind : (w : Columns) (front : List ℕ) (q : Past) (key : ℕ) (x : Request) → onRequest w (behind front q) key x ≡ behind front (onRequest w q key x)
 unfolding onRequest
-on-behind w front q key Bad = λ i. record { table = q .table; text = append-assoc front (q .text) badText i; count = q .count; good = false }
+on-behind w front q key Bad = λ i. record { table = q .table; text = append-assoc front (q .text) badLine i; count = q .count; good = false }
 on-behind w front q key (Asks act) = λ i.
     record {
       table = tableOf sourceHalf (q .table) key act;
@@ -102,11 +102,11 @@ nothing-yet q g i = record { table = q .table; text = sym (append-nil (q .text))
 pub in-chunks : claim.InChunks
 in-chunks w s p m zero g =
     let e : 0 + m ≡ m = omega arith in
-    ap (after w s p) e ∙ nothing-yet (after w s p m) g
+    ap (afterRecords w s p) e ∙ nothing-yet (afterRecords w s p m) g
 in-chunks w s p m (suc k) g =
     let e : suc k + m ≡ suc (k + m) = omega arith in
-    let c : Past = after w (drop (m * 16) s) (begin (after w s p m .table) (after w s p m .count)) k in
-    ap (after w s p) e
+    let c : Past = afterRecords w (drop (m * 16) s) (begin (afterRecords w s p m .table) (afterRecords w s p m .count)) k in
+    ap (afterRecords w s p) e
     ∙ (ap (λ (q : Past). cond (q .good) (onDecoded w q (decodedOf (recordAt s ((k + m) * 16)))) q) (in-chunks w s p m k g)
-    ∙ (next-behind w (after w s p m .text) c (recordAt s ((k + m) * 16)) (c .good)
-    ∙ ap (λ (os : List ℕ). behind (after w s p m .text) (cond (c .good) (onDecoded w c (decodedOf os)) c)) (sym (same-record s m k))))
+    ∙ (next-behind w (afterRecords w s p m .text) c (recordAt s ((k + m) * 16)) (c .good)
+    ∙ ap (λ (os : List ℕ). behind (afterRecords w s p m .text) (cond (c .good) (onDecoded w c (decodedOf os)) c)) (sym (same-record s m k))))

@@ -10,7 +10,7 @@ use lib.Seq.{drop-cons, take-suc, take-suc-set, take-all}
 use Rattle.call.specs.declared.Call.{Call}
 use Rattle.call.specs.Record.{emptied}
 use Rattle.trace_run.specs.Run.{recordAt}
-use Rattle.trace_run.specs.Placed.{indexOf, keysOf}
+use Rattle.trace_run.specs.Placed.{indexOf, keysIn}
 
 index-here : (key x : ℕ) (xs : List ℕ) → x ≡ key → indexOf key (x ∷ xs) ≡ 0
 index-here key x xs e = rw (eq-eqb x key e)
@@ -32,28 +32,28 @@ pub index-end : (key : ℕ) (ks : List ℕ) (i : ℕ) → length ks ≤ i → in
 index-end key ks i h p =
     let q : indexOf key (drop i ks) ≡ 0 = ap (indexOf key) (drop-of-length-le ks h) in omega arith
 
-pub length-keys : (ys : List Call) → length (keysOf ys) ≡ length ys
+pub length-keys : (ys : List Call) → length (keysIn ys) ≡ length ys
 length-keys [] = refl
 length-keys (c ∷ ys) = ap suc (length-keys ys)
 
-pub keys-set : (ys : List Call) (i : ℕ) (d : Call) → keysOf (set ys i d) ≡ set (keysOf ys) i (d .key)
+pub keys-set : (ys : List Call) (i : ℕ) (d : Call) → keysIn (set ys i d) ≡ set (keysIn ys) i (d .key)
 keys-set [] i d = refl
 keys-set (c ∷ ys) zero d = refl
 keys-set (c ∷ ys) (suc i) d = ap (λ (l : List ℕ). c .key ∷ l) (keys-set ys i d)
 
-pub key-at : (ys : List Call) (i : ℕ) → getD (keysOf ys) i 0 ≡ getD ys i emptied .key
+pub key-at : (ys : List Call) (i : ℕ) → getD (keysIn ys) i 0 ≡ getD ys i emptied .key
 key-at [] i = refl
 key-at (c ∷ ys) zero = refl
 key-at (c ∷ ys) (suc i) = key-at ys i
 
 -- one key more
-pub keys-more : (ys : List Call) (ks : List ℕ) (i k : ℕ) → i < length ks → i < length ys → k ≡ getD (keysOf ys) i 0 → take i ks ≡ take i (keysOf ys) → take (i + 1) (set ks i k) ≡ take (i + 1) (keysOf ys)
+pub keys-more : (ys : List Call) (ks : List ℕ) (i k : ℕ) → i < length ks → i < length ys → k ≡ getD (keysIn ys) i 0 → take i ks ≡ take i (keysIn ys) → take (i + 1) (set ks i k) ≡ take (i + 1) (keysIn ys)
 keys-more ys ks i k h l e p =
     rw (add-one i)
-    (take-suc-set ks i k h ∙ (ap (λ (x : ℕ). take i ks ++ (x ∷ [])) e ∙ (ap (λ (x : List ℕ). x ++ (getD (keysOf ys) i 0 ∷ [])) p ∙ sym (take-suc (keysOf ys) i 0 (omega (arith, length-keys ys))))))
+    (take-suc-set ks i k h ∙ (ap (λ (x : ℕ). take i ks ++ (x ∷ [])) e ∙ (ap (λ (x : List ℕ). x ++ (getD (keysIn ys) i 0 ∷ [])) p ∙ sym (take-suc (keysIn ys) i 0 (omega (arith, length-keys ys))))))
 
-pub keys-all : (ys : List Call) (ks : List ℕ) (i : ℕ) → length ks ≤ i → length ys ≤ i → take i ks ≡ take i (keysOf ys) → ks ≡ keysOf ys
-keys-all ys ks i h l p = sym (take-all i ks h) ∙ (p ∙ take-all i (keysOf ys) (omega (arith, length-keys ys)))
+pub keys-all : (ys : List Call) (ks : List ℕ) (i : ℕ) → length ks ≤ i → length ys ≤ i → take i ks ≡ take i (keysIn ys) → ks ≡ keysIn ys
+keys-all ys ks i h l p = sym (take-all i ks h) ∙ (p ∙ take-all i (keysIn ys) (omega (arith, length-keys ys)))
 
 -- octets from a place on, one by one
 abbrev pub window : List ℕ → ℕ → ℕ → ℕ → List ℕ

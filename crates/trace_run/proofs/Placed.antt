@@ -25,11 +25,11 @@ use Rattle.source_table.specs.declared.Found.{Found}
 use Rattle.source_table.specs.declared.Found.the-variants.{At, Nothing}
 use Rattle.source_table.specs.declared.Ran.{Ran}
 use Rattle.source_table.specs.Fit.{fitTable}
-use Rattle.admission.specs.Admission.{actAdmitted, admissionOf, answerIn}
+use Rattle.admission.specs.Admission.{actAdmitted, admissionOf, refusalIn}
 use Rattle.admission.specs.declared.Admission.{Admission}
 use Rattle.admission.specs.declared.Admission.the-variants.{Refuses, Takes, Reaches}
 use Rattle.admission.proofs.Claims.{full-is-read-last}
-use Rattle.source_table.specs.Table.{callIn, carriedOut, isNothing, placeIn, ranFitOf, ranOf, refusedAt, tableOf}
+use Rattle.source_table.specs.Table.{callIn, ranBy, isNothing, placeIn, ranFitOf, ranOf, refusedAt, tableOf}
 use Rattle.source_table.specs.Claims.{FitRecord, FitTable, callOf}
 use Rattle.source_table.proofs.Search.{first, sought-is, call-of, FoundAt, found-at, on-record, stands-on-record}
 use Rattle.source_table.proofs.Fit.{fit-exactly}
@@ -38,7 +38,7 @@ use Rattle.source_table.proofs.Source.{fit-needs-no-check}
 use Rattle.call.proofs.Source.{lawful}
 use Rattle.source_table.proofs.Kept.{after-event}
 use Rattle.trace_run.specs.Run.{shownOf}
-use Rattle.trace_run.specs.Placed.{keysOf, indexOf, placeFor, refusedWith, carriedOn, workedOn, unplacedFor}
+use Rattle.trace_run.specs.Placed.{keysIn, indexOf, placeFor, refusedWith, carriedOn, workedOn, unplacedFor}
 
 -- the call of a key: at the first place that has it, and empty where none has
 call-first : (k : ℕ) (ys : List Call) (i : ℕ) → i < length ys → getD ys i emptied .key ≡ k → ((m : ℕ) → m < i → getD ys m emptied .key ≡ k → ⊥) → callOf k ys ≡ getD ys i emptied
@@ -52,22 +52,22 @@ call-none k [] h = refl
 call-none k (c ∷ cs) h = rw (ne-eqb (c .key) k (h 0 (omega arith))) (call-none k cs (λ m l. h (suc m) (suc-le-suc l)))
 
 -- the place of a key among the keys is that of the record which a search finds
-index-from : (k i : ℕ) (ys : List Call) → i + indexOf k (keysOf ys) ≡ placeIn (i + length ys) (first k i ys)
+index-from : (k i : ℕ) (ys : List Call) → i + indexOf k (keysIn ys) ≡ placeIn (i + length ys) (first k i ys)
 unfolding firstFrom
 index-from k i [] = refl
 index-from k i (c ∷ cs) = by-test (index-from k (i + 1) cs) (eqb (c .key) k)
   where
-    by-test : i + 1 + indexOf k (keysOf cs) ≡ placeIn (i + 1 + length cs) (first k (i + 1) cs) → (b : Bool) →
-        i + cond b 0 (suc (indexOf k (keysOf cs))) ≡ placeIn (i + suc (length cs)) (cond b (At i c) (first k (i + 1) cs))
+    by-test : i + 1 + indexOf k (keysIn cs) ≡ placeIn (i + 1 + length cs) (first k (i + 1) cs) → (b : Bool) →
+        i + cond b 0 (suc (indexOf k (keysIn cs))) ≡ placeIn (i + suc (length cs)) (cond b (At i c) (first k (i + 1) cs))
     by-test h true = omega arith
     by-test h false =
         let m : i + 1 + length cs ≡ i + suc (length cs) = omega arith in
-        let e : i + suc (indexOf k (keysOf cs)) ≡ i + 1 + indexOf k (keysOf cs) = omega arith in
+        let e : i + suc (indexOf k (keysIn cs)) ≡ i + 1 + indexOf k (keysIn cs) = omega arith in
         e ∙ (h ∙ ap (λ (n : ℕ). placeIn n (first k (i + 1) cs)) m)
 
-index-is : (k : ℕ) (ys : List Call) → indexOf k (keysOf ys) ≡ placeIn (length ys) (first k 0 ys)
+index-is : (k : ℕ) (ys : List Call) → indexOf k (keysIn ys) ≡ placeIn (length ys) (first k 0 ys)
 index-is k ys =
-    let e : indexOf k (keysOf ys) ≡ 0 + indexOf k (keysOf ys) = omega arith in
+    let e : indexOf k (keysIn ys) ≡ 0 + indexOf k (keysIn ys) = omega arith in
     let n : 0 + length ys ≡ length ys = omega arith in
     e ∙ (index-from k 0 ys ∙ ap (λ (m : ℕ). placeIn m (first k 0 ys)) n)
 
@@ -174,10 +174,10 @@ admitted-out key (Opens wanted) Nothing Nothing l m h = refl
 admitted-out key (Meets e) Nothing free l m h = refl
 
 -- there it is refused
-turned-away : (key : ℕ) (act : Act) (c : Call) → carriedOn c key (admissionOf key act true true) ≡ refusedWith (answerIn (admissionOf key act true true)) c
+turned-away : (key : ℕ) (act : Act) (c : Call) → carriedOn c key (admissionOf key act true true) ≡ refusedWith (refusalIn (admissionOf key act true true)) c
 turned-away key act c = by-key (eqb key 0) act
   where
-    by-key : (b : Bool) (act : Act) → let a = cond b (Refuses KeyZero) (actAdmitted act true true) in carriedOn c key a ≡ refusedWith (answerIn a) c
+    by-key : (b : Bool) (act : Act) → let a = cond b (Refuses KeyZero) (actAdmitted act true true) in carriedOn c key a ≡ refusedWith (refusalIn a) c
     by-key true act = refl
     by-key false (Opens wanted) = refl
     by-key false (Meets e) = refl
@@ -215,7 +215,7 @@ module _ (ys : List Call) (f : FitTable ys) (n : length ys ≡ 64) (key : ℕ) w
 
   by-found : (act : Act) (found free : Found) → first key 0 ys ≡ found → first 0 0 ys ≡ free → (key ≡ 0 → ⊥) →
       let a = actAdmitted act (isNothing found) (isNothing free) in
-      Goes ys key a (placeOn found free act) (carriedOut sourceHalf (length ys) (record { found = found; free = free }) key a)
+      Goes ys key a (placeOn found free act) (ranBy sourceHalf (length ys) (record { found = found; free = free }) key a)
   by-found (Opens wanted) (At i c) free p q z = refusal-goes ys key KeyOnRecord i (call-there key (At i c) p)
   by-found (Opens wanted) Nothing (At i c) p q z =
       let h = here 0 ys i c q in
@@ -234,7 +234,7 @@ module _ (ys : List Call) (f : FitTable ys) (n : length ys ≡ 64) (key : ℕ) w
 
   by-key : (act : Act) (found free : Found) → first key 0 ys ≡ found → first 0 0 ys ≡ free → (b : Bool) → eqb key 0 ≡ b →
       let a = cond b (Refuses KeyZero) (actAdmitted act (isNothing found) (isNothing free)) in
-      Goes ys key a (placeOn found free act) (carriedOut sourceHalf (length ys) (record { found = found; free = free }) key a)
+      Goes ys key a (placeOn found free act) (ranBy sourceHalf (length ys) (record { found = found; free = free }) key a)
   by-key act found free p q true t =
       refusal-goes ys key KeyZero (placeOn found free act)
       (ap (λ (j : ℕ). getD ys j emptied) (by-zero act found free p q (eqb-true key 0 t)) ∙ call-there key found p)
@@ -248,14 +248,14 @@ module _ (ys : List Call) (f : FitTable ys) (n : length ys ≡ 64) (key : ℕ) w
       rw (← fit-needs-no-check ys key act (fit-exactly ys .1 f) .0, sought-is ys key)
       (by-key act (first key 0 ys) (first 0 0 ys) refl refl (eqb key 0) refl)
 
-  index-within : (k : ℕ) → indexOf k (keysOf ys) ≡ placeIn 64 (first k 0 ys)
+  index-within : (k : ℕ) → indexOf k (keysIn ys) ≡ placeIn 64 (first k 0 ys)
   index-within k = index-is k ys ∙ ap (λ (m : ℕ). placeIn m (first k 0 ys)) n
 
-  module _ (act : Act) (i j : ℕ) (at : i ≡ indexOf key (keysOf ys)) (to : j ≡ placeFor (keysOf ys) i act) where
+  module _ (act : Act) (i j : ℕ) (at : i ≡ indexOf key (keysIn ys)) (to : j ≡ placeFor (keysIn ys) i act) where
     place-is : j ≡ placeOn (first key 0 ys) (first 0 0 ys) act
     place-is =
-        to ∙ (ap (λ (m : ℕ). placeFor (keysOf ys) m act) (at ∙ index-within key)
-        ∙ place-on act (first key 0 ys) (first 0 0 ys) (within key _ refl) (keysOf ys) (index-within 0))
+        to ∙ (ap (λ (m : ℕ). placeFor (keysIn ys) m act) (at ∙ index-within key)
+        ∙ place-on act (first key 0 ys) (first 0 0 ys) (within key _ refl) (keysIn ys) (index-within 0))
 
     -- at a place of the table, the record there becomes what comes of it, and that is shown
     pub placed : j < 64 →

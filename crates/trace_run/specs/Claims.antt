@@ -18,16 +18,17 @@ use Rattle.trace_line.specs.declared.Columns.{Columns}
 use Rattle.trace_line.specs.declared.Columns.the-variants.{Trace, Watch}
 use Rattle.trace_line.specs.Line.{firstLine}
 use Rattle.trace_line.specs.Claims.{line}
-use Rattle.trace_run.specs.Run.{Past, begin, after, chunkOf, badText}
+use Rattle.trace_run.specs.Run.{Past, begin, afterRecords, chunkOf, badLine}
 use Rattle.trace_run.specs.Story.{octetsOf, linesOf, story}
 
 -- a run over all of the input, from 64 empty records
-abbrev pub runOf : Columns → List ℕ → Past
-runOf w octets = chunkOf w octets (replicate 64 emptied) 0
+abbrev pub wholeRun : Columns → List ℕ → Past
+wholeRun w octets = chunkOf w octets (replicate 64 emptied) 0
 
 -- all that is printed of an input: the first line, the lines of the run, and `bad` for a last record that is cut short
 unfoldable pub printedOf : Columns → List ℕ → List ℕ
-printedOf w octets = firstLine w ++ (runOf w octets .text ++ cond (runOf w octets .good && not (eqb (length octets % 16) 0)) badText [])
+printedOf w octets =
+    firstLine w ++ (wholeRun w octets .text ++ cond (wholeRun w octets .good && not (eqb (length octets % 16) 0)) badLine [])
 
 -- B1 to B4 as records: open key 7 with hard and symmetric soft, setup with clearing and number 3, ready, the setup again
 abbrev pub firstFour : List ℕ
@@ -47,10 +48,11 @@ FiveLines =
 
 -- 01, "The trace", from octets to bytes: of the story the watch prints its first line, a line for each record, and `bad`.
 abbrev pub StoryIsPrinted : Type 0
-StoryIsPrinted = printedOf Watch (octetsOf story) ≡ line (ascii "line answer state incumbent rerouting number last signals") ++ linesOf story
+StoryIsPrinted =
+    printedOf Watch (octetsOf story) ≡ line (ascii "line answer state incumbent rerouting number last signals") ++ linesOf story
 
 -- what an opening or event leaves: the answer's number, the signals, and the whole table
-pub record Step : Type 0 where
+pub record AfterOne : Type 0 where
   pub answer : ℕ
   pub signals : List Signal
   pub table : List Call
@@ -61,34 +63,52 @@ pub record Asked : Type 0 where
   pub act : Act
 
 -- one after the other, through the entry that checks the table first, and through the one that does not
-abbrev pub checkedRun : List Asked → List Call → List Step
+abbrev pub checkedRun : List Asked → List Call → List AfterOne
 checkedRun [] ys = []
 checkedRun (a ∷ more) ys =
-    record { answer = answerNumber (ranOf sourceHalf ys (a .key) (a .act) .done .answer); signals = ranOf sourceHalf ys (a .key) (a .act) .done .signals; table = tableOf sourceHalf ys (a .key) (a .act) }
+    record {
+      answer = answerNumber (ranOf sourceHalf ys (a .key) (a .act) .done .answer);
+      signals = ranOf sourceHalf ys (a .key) (a .act) .done .signals;
+      table = tableOf sourceHalf ys (a .key) (a .act);
+    }
     ∷ checkedRun more (tableOf sourceHalf ys (a .key) (a .act))
 
-abbrev pub uncheckedRun : List Asked → List Call → List Step
+abbrev pub uncheckedRun : List Asked → List Call → List AfterOne
 uncheckedRun [] ys = []
 uncheckedRun (a ∷ more) ys =
-    record { answer = answerNumber (ranFitOf sourceHalf ys (a .key) (a .act) .done .answer); signals = ranFitOf sourceHalf ys (a .key) (a .act) .done .signals; table = tableFitOf sourceHalf ys (a .key) (a .act) }
+    record {
+      answer = answerNumber (ranFitOf sourceHalf ys (a .key) (a .act) .done .answer);
+      signals = ranFitOf sourceHalf ys (a .key) (a .act) .done .signals;
+      table = tableFitOf sourceHalf ys (a .key) (a .act);
+    }
     ∷ uncheckedRun more (tableFitOf sourceHalf ys (a .key) (a .act))
 
--- Demand 1, 01, 101: from an empty table the check for 101 decides nothing, over any sequence of openings and events: answers, signals and tables are the same without it.
+-- Demand 1, 01, 101: from an empty table the check for 101 decides nothing, over any sequence of openings and events: answers, signals and
+-- tables are the same without it.
 abbrev pub NoCheckNeeded : Type 0
-NoCheckNeeded = (n : ℕ) → n ≤ 1024 → (asked : List Asked) → checkedRun asked (replicate n emptied) ≡ uncheckedRun asked (replicate n emptied)
+NoCheckNeeded =
+    (n : ℕ) → n ≤ 1024 → (asked : List Asked) → checkedRun asked (replicate n emptied) ≡ uncheckedRun asked (replicate n emptied)
 
 -- Whatever records come, the table of a run stays fit.
-abbrev pub StaysFit : Type 0
-StaysFit = (w : Columns) (octets : List ℕ) (p : Past) (r : ℕ) → FitTable (p .table) → FitTable (after w octets p r .table)
+abbrev pub RunStaysFit : Type 0
+RunStaysFit = (w : Columns) (octets : List ℕ) (p : Past) (r : ℕ) → FitTable (p .table) → FitTable (afterRecords w octets p r .table)
 
 -- Decision 24: behind a bad record nothing is read.
 abbrev pub BadEnds : Type 0
-BadEnds = (w : Columns) (octets : List ℕ) (p : Past) (r k : ℕ) → after w octets p r .good ≡ false → after w octets p (k + r) ≡ after w octets p r
+BadEnds =
+    (w : Columns) (octets : List ℕ) (p : Past) (r k : ℕ) →
+    afterRecords w octets p r .good ≡ false → afterRecords w octets p (k + r) ≡ afterRecords w octets p r
 
--- It makes no difference where the input is cut into chunks, as long as it is between two records: the run goes on from the table and the count where it stood, and the lines
--- stand one behind the other.
+-- It makes no difference where the input is cut into chunks, as long as it is between two records: the run goes on from the table and the
+-- count where it stood, and the lines stand one behind the other.
 abbrev pub InChunks : Type 0
 InChunks =
-    (w : Columns) (octets : List ℕ) (p : Past) (m k : ℕ) → after w octets p m .good ≡ true →
-    let chunk = after w (drop (m * 16) octets) (begin (after w octets p m .table) (after w octets p m .count)) k in
-    after w octets p (k + m) ≡ record { table = chunk .table; text = after w octets p m .text ++ chunk .text; count = chunk .count; good = chunk .good }
+    (w : Columns) (octets : List ℕ) (p : Past) (m k : ℕ) → afterRecords w octets p m .good ≡ true →
+    let chunk = afterRecords w (drop (m * 16) octets) (begin (afterRecords w octets p m .table) (afterRecords w octets p m .count)) k in
+    afterRecords w octets p (k + m)
+    ≡ record {
+      table = chunk .table;
+      text = afterRecords w octets p m .text ++ chunk .text;
+      count = chunk .count;
+      good = chunk .good;
+    }

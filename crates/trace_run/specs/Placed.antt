@@ -1,9 +1,11 @@
--- The record that an opening or event goes to, found among the keys of the table, and what comes of it. 102 to 105 are decided by admission, as over a
--- lent row; proofs/Placed.antt says that all of it is what `ranOf` and `tableOf` say of a fit table. Assumes nothing.
-use Prim.Native.Nat.{ℕ, suc}
+-- The record that an opening or event goes to, found among the keys of the table, and what comes of it. 102 to 105 are decided by
+-- admission, as over a lent row; proofs/Placed.antt says that all of it is what `ranOf` and `tableOf` say of a fit table. Assumes nothing.
+use Prim.Native.Nat.{ℕ, suc, _+_, _≤_}
 use mathlib.Core.Bool.{Bool, cond, false, true}
 use mathlib.Core.List.{List, [], _∷_, map}
+use mathlib.Core.Path.{_≡_}
 use lib.Dec.{eqb, ltb}
+use Rattle.lines.specs.Lines.{page, putText}
 use Rattle.signal.specs.declared.Answer.{Answer}
 use Rattle.signal.specs.Signals.{places}
 use Rattle.call.specs.declared.Call.{Call}
@@ -12,13 +14,15 @@ use Rattle.call.specs.Record.{emptied, openedFor}
 use Rattle.call.specs.Events.{eventOf}
 use Rattle.events.specs.declared.Act.{Act}
 use Rattle.events.specs.declared.Act.the-variants.{Opens, Meets}
-use Rattle.admission.specs.Admission.{admissionOf, answerIn}
+use Rattle.admission.specs.Admission.{admissionOf, refusalIn}
 use Rattle.admission.specs.declared.Admission.{Admission}
 use Rattle.admission.specs.declared.Admission.the-variants.{Reaches, Refuses, Takes}
-use Rattle.trace_run.specs.declared.Ran.{Ran}
+use Rattle.source_table.specs.Fit.{fitTable}
+use Rattle.trace_run.specs.Run.{Past}
+use Rattle.trace_run.specs.declared.Stop.{Stop}
 
-abbrev pub keysOf : List Call → List ℕ
-keysOf ys = map (λ c. c .key) ys
+abbrev pub keysIn : List Call → List ℕ
+keysIn ys = map (λ c. c .key) ys
 
 -- the first place of a key, or the length
 abbrev pub indexOf : ℕ → List ℕ → ℕ
@@ -50,8 +54,16 @@ workedOn c key act missing = carriedOn c key (admissionOf key act missing false)
 
 -- and where it goes to none: its key is missing, and for an opening the table is full
 abbrev pub unplacedFor : ℕ → Act → Outcome
-unplacedFor key act = refusedWith (answerIn (admissionOf key act true true)) emptied
+unplacedFor key act = refusedWith (refusalIn (admissionOf key act true true)) emptied
 
 -- what is answered of a run that a bad record ended
-abbrev pub stoppedAt : List Call → ℕ → ℕ → Ran
+abbrev pub stoppedAt : List Call → ℕ → ℕ → Stop
 stoppedAt ys at n = record { table = ys; at = at; count = n; good = false }
+
+-- what is left of a run over a chunk, besides its table: the count of records and whether none was bad; the lines at the start of the
+-- buffer; and that the table is fit again, and no more than 4,096 records were counted
+abbrev pub Stops : Past → Stop → List ℕ → List ℕ → ℕ → Type 0
+Stops p r before after start =
+    (r .count ≡ p .count)
+    × ((r .good ≡ p .good)
+    × ((page after (r .at) ≡ putText (page before 0) (p .text)) × ((fitTable (r .table) ≡ true) × (r .count ≤ start + 4096))))

@@ -1,5 +1,5 @@
--- What a run of the trace prints (01, "The trace"): event records of 16 octets each, over a table of calls. Each is one opening or event by key, as
--- `source_table::handle` does it: `ranOf` and `tableOf` are the two that its contract fixes. Assumes nothing.
+-- What a run of the trace prints (01, "The trace"): event records of 16 octets each, over a table of calls. Each is one opening or event by
+-- key, as `source_table::handle` does it: `ranOf` and `tableOf` are the two that its contract fixes. Assumes nothing.
 use Prim.Native.Nat.{ℕ, zero, suc, _+_, _*_, _/_}
 use mathlib.Core.Bool.{Bool, true, false, cond}
 use mathlib.Core.List.{List, [], _∷_, _++_}
@@ -31,15 +31,20 @@ begin ys n = record { table = ys; text = []; count = n; good = true }
 
 -- what a line shows: the answer and the signals of the event, and the call of its key after it (decision 25)
 unfoldable pub shownOf : List Call → ℕ → Act → Outcome
-shownOf ys key act = record { answer = ranOf sourceHalf ys key act .done .answer; call = callOf key (tableOf sourceHalf ys key act); signals = ranOf sourceHalf ys key act .done .signals }
+shownOf ys key act =
+    record {
+      answer = ranOf sourceHalf ys key act .done .answer;
+      call = callOf key (tableOf sourceHalf ys key act);
+      signals = ranOf sourceHalf ys key act .done .signals;
+    }
 
 -- `bad` on a line of its own; nothing is done, and nothing is counted
-abbrev pub badText : List ℕ
-badText = ascii "bad" ++ (10 ∷ [])
+abbrev pub badLine : List ℕ
+badLine = ascii "bad" ++ (10 ∷ [])
 
 -- a record that has been read
 unfoldable pub onRequest : Columns → Past → ℕ → Request → Past
-onRequest w p key Bad = record { table = p .table; text = p .text ++ badText; count = p .count; good = false }
+onRequest w p key Bad = record { table = p .table; text = p .text ++ badLine; count = p .count; good = false }
 onRequest w p key (Asks act) =
     record {
       table = tableOf sourceHalf (p .table) key act;
@@ -56,11 +61,13 @@ unfoldable pub recordAt : List ℕ → ℕ → List ℕ
 recordAt octets place = take 16 (drop place octets)
 
 -- after so many records of the input; behind a bad one nothing is read
-abbrev pub after : Columns → List ℕ → Past → ℕ → Past
-after w octets p zero = p
-after w octets p (suc r) =
-    cond (after w octets p r .good) (onDecoded w (after w octets p r) (decodedOf (recordAt octets (r * 16)))) (after w octets p r)
+abbrev pub afterRecords : Columns → List ℕ → Past → ℕ → Past
+afterRecords w octets p zero = p
+afterRecords w octets p (suc r) =
+    cond (afterRecords w octets p r .good)
+    (onDecoded w (afterRecords w octets p r) (decodedOf (recordAt octets (r * 16))))
+    (afterRecords w octets p r)
 
 -- all whole records of a chunk, from a table and a count on
 abbrev pub chunkOf : Columns → List ℕ → List Call → ℕ → Past
-chunkOf w octets ys n = after w octets (begin ys n) (length octets / 16)
+chunkOf w octets ys n = afterRecords w octets (begin ys n) (length octets / 16)

@@ -1,14 +1,14 @@
 // The run of the trace: event records of 16 octets each, over a table of 64 calls by value, and a line for each record.
 //
-// The keys of the table stand beside it, so that a search reads nothing else. No event is checked for 101: the table that a run is given is fit, and stays so.
+// The keys of the table stand beside it, so that a search reads nothing else. No event is checked for 101: the table that a run is given is
+// fit, and stays so.
 ghost use Prim.Native.Nat.{_+_, _≤_, _<_, _^_};
 ghost use mathlib.Core.Bool.{true};
 ghost use mathlib.Core.Path.{_≡_};
 ghost use lib.ListN.{length};
-ghost use Rattle.lines.specs.Lines.{page, putText};
 ghost use Rattle.source_table.specs.Fit.{fitTable};
 ghost use Rattle.trace_run.specs.Run.{recordAt, chunkOf};
-ghost use Rattle.trace_run.specs.Placed.{keysOf, indexOf, placeFor, refusedWith, carriedOn, workedOn, unplacedFor, stoppedAt};
+ghost use Rattle.trace_run.specs.Placed.{keysIn, indexOf, placeFor, refusedWith, carriedOn, workedOn, unplacedFor, stoppedAt, Stops};
 use admission::Admission;
 use call::Call;
 use call::Outcome;
@@ -18,8 +18,8 @@ use signal::Answer;
 use signal::Signal;
 use trace_line::Columns;
 
-// How far a run has come: the table, the place behind the lines, the count of records, and whether none of them was bad.
-pub struct Ran {
+// Where a run stops: the table, the place behind the lines, the count of records, and whether none of them was bad.
+pub struct Stop {
     pub table: [Call; 64],
     pub at: usize,
     pub count: u64,
@@ -51,7 +51,7 @@ fn record_at(input: &[u8], place: usize) -> [u8; 16]
 }
 
 fn keys_of(table: [Call; 64]) -> [u32; 64]
-    ensures { λ r. ⌜ (r ≡ keysOf table) × (length r ≡ 64) ⌝ }
+    ensures { λ r. ⌜ (r ≡ keysIn table) × (length r ≡ 64) ⌝ }
 {
     let mut keys = [0u32; 64];
     let mut index: usize = 0;
@@ -78,8 +78,8 @@ fn find(keys: &[u32; 64], key: u32) -> usize
     64
 }
 
-// The place of the record that an opening or event goes to: where its key was found; else, for an opening, the lowest empty one; else 64. An empty
-// record is searched for only where the admission depends on it.
+// The place of the record that an opening or event goes to: where its key was found; else, for an opening, the lowest empty one; else 64.
+// An empty record is searched for only where the admission depends on it.
 fn place_for(keys: &[u32; 64], found: usize, act: Act) -> usize
     requires { ⌜ length (now keys) ≡ 64 ⌝ }
     ensures { λ r. ⌜ r ≡ placeFor (now (keys .entry)) found act ⌝ }
@@ -127,14 +127,14 @@ fn unplaced(key: u32, act: Act) -> Outcome
     ensures { λ r. ⌜ r ≡ unplacedFor key act ⌝ }
 {
     let admission = admission::admit(key, act, true, true);
-    refused(admission.answer(), Call::EMPTY)
+    refused(admission.refusal(), Call::EMPTY)
 }
 
 // A bad record ends a run.
-fn stopped(table: [Call; 64], at: usize, count: u64) -> Ran
+fn stopped(table: [Call; 64], at: usize, count: u64) -> Stop
     ensures { λ r. ⌜ r ≡ stoppedAt table at count ⌝ }
 {
-    Ran {
+    Stop {
         table,
         at,
         count,
@@ -143,9 +143,10 @@ fn stopped(table: [Call; 64], at: usize, count: u64) -> Ran
 }
 
 // Every whole record of the input, in order, to lines at the start of the buffer; a bad one ends the run.
-pub fn run(table: [Call; 64], input: &[u8], out: &mut [u8], columns: Columns, start: u64) -> Ran
+pub fn run(table: [Call; 64], input: &[u8], out: &mut [u8], columns: Columns, start: u64) -> Stop
     requires { ⌜ (fitTable table ≡ true) × ((length (now input) ≤ 65536) × (start + 4096 < 2 ^ 64)) ⌝ }
-    ensures { λ r. ⌜ (r .table ≡ chunkOf columns (now (input .entry)) table start .table) × ((r .count ≡ chunkOf columns (now (input .entry)) table start .count) × ((r .good ≡ chunkOf columns (now (input .entry)) table start .good) × ((page (now (out .exit)) (r .at) ≡ putText (page (now (out .entry)) 0) (chunkOf columns (now (input .entry)) table start .text)) × ((fitTable (r .table) ≡ true) × (r .count ≤ start + 4096))))) ⌝ }
+    ensures { λ r. ⌜ (r .table ≡ chunkOf columns (now (input .entry)) table start .table)
+        × Stops (chunkOf columns (now (input .entry)) table start) r (now (out .entry)) (now (out .exit)) start ⌝ }
 {
     let mut calls = table;
     let mut keys = keys_of(table);
@@ -175,7 +176,7 @@ pub fn run(table: [Call; 64], input: &[u8], out: &mut [u8], columns: Columns, st
         }
         index += 1;
     }
-    Ran {
+    Stop {
         table: calls,
         at,
         count,

@@ -12,8 +12,8 @@ use Rattle.lent.proofs.HandleArray as walked
 use Rattle.call.specs.Events.{sourceHalf}
 use Rattle.source_table.specs.Table.{ranOf, tableOf}
 use Rattle.source_table.proofs.Shape.{row, act, done}
-use Rattle.source_table.proofs.Sixty as Z
-use Rattle.source_table.proofs.Sixty.Laws as Z′
+use Rattle.source_table.proofs.SixtyFour as Z
+use Rattle.source_table.proofs.SixtyFour.Laws as Z′
 use Rattle.source_table.proofs.handle.Symbol as handle
 use Rattle.source_table.proofs.handle.Met as handle-thm
 use Rattle.source_table.proofs.handle64.Key.{name as #source_table·handle64}

@@ -4,13 +4,13 @@ use native.Mathlib.Omega.{arith}
 use mathlib.Core.Path.{_≡_, refl, sym}
 use borrow.Author.Needs.{needs}
 use lib.ListN.{length, take, length-set}
-use Rattle.trace_run.specs.Placed.{keysOf}
+use Rattle.trace_run.specs.Placed.{keysIn}
 use Rattle.trace_run.proofs.Laws.{key-at, keys-more, keys-all}
 use Rattle.trace_run.proofs.keys_of.Statement.{statement}
 use Rattle.trace_run.proofs.keys_of.Tie as tie
 
 abbrev Inv-loop : tie.InvT-loop
-Inv-loop table keys₀ index₀ keys index = (index ≤ 64) × ((length keys ≡ 64) × (take index keys ≡ take index (keysOf table)))
+Inv-loop table keys₀ index₀ keys index = (index ≤ 64) × ((length keys ≡ 64) × (take index keys ≡ take index (keysIn table)))
 
 abbrev μ-loop : tie.MeasureT-loop
 μ-loop table keys₀ index₀ keys index = 64 - index

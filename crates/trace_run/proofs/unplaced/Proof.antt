@@ -4,7 +4,7 @@ use Rattle.trace_run.proofs.unplaced.Statement.{statement}
 use Rattle.trace_run.proofs.unplaced.Tie as tie
 
 returns : tie.Need-returns
-returns c = simp (c .refused .ensures, c .before .answer .ensures, c .before .before .admit .ensures)
+returns c = simp (c .refused .ensures, c .before .refusal .ensures, c .before .before .admit .ensures)
 
 pub unplaced-spec : {M : Type 1} → statement M
 unplaced-spec =

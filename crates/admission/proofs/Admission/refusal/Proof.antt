@@ -1,7 +1,7 @@
--- `Admission::answer` meets its contract. Assumes nothing.
+-- `Admission::refusal` meets its contract. Assumes nothing.
 use borrow.Author.Needs.{needs}
-use Rattle.admission.proofs.Admission.answer.Statement.{statement}
-use Rattle.admission.proofs.Admission.answer.Tie as tie
+use Rattle.admission.proofs.Admission.refusal.Statement.{statement}
+use Rattle.admission.proofs.Admission.refusal.Tie as tie
 
 returns : tie.Need-returns
 returns c = simp (c .before .self .given .1)
@@ -12,8 +12,8 @@ returns-2 c = simp (c .enum-told .given .1)
 returns-3 : tie.Need-returns-3
 returns-3 c = simp (c .enum-told2 .given .1)
 
-pub answer-spec : {M : Type 1} → statement M
-answer-spec =
+pub refusal-spec : {M : Type 1} → statement M
+refusal-spec =
     tie.close
     (tie.spec
     (λ c. search needs)
