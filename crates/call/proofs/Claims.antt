@@ -126,10 +126,12 @@ module _ (half : Half) (L : claim.Lawful half) where
     asked = L .obeyed x e
 
     -- refused, ended, or gone on
-    by-end : (P : Call → Type 0) → (isDone (f .answer) ≡ false → P c) → (isDone (f .answer) ≡ true → isNull (f .state) ≡ true → P emptied) → (isDone (f .answer) ≡ true → isNull (f .state) ≡ false → P (movedTo c (f .state) (lastAfter (f .gives) (c .last)) (cond (f .stores) (numberBrought e) (c .remote)))) → P (o .call)
+    by-end : (P : Call → Type 0) → (isDone (f .answer) ≡ false → P c) → (isDone (f .answer) ≡ true → isNull (f .state) ≡ true → P emptied) →
+        (isDone (f .answer) ≡ true → isNull (f .state) ≡ false → P (movedTo c (f .state) (lastAfter (f .gives) (c .last)) (cond (f .stores) (numberBrought e) (c .remote)))) → P (o .call)
     by-end P refused ended on = by-answer (isDone (f .answer)) refl
       where
-        by-null : (b : Bool) → isDone (f .answer) ≡ true → isNull (f .state) ≡ b → P (cond b emptied (movedTo c (f .state) (lastAfter (f .gives) (c .last)) (cond (f .stores) (numberBrought e) (c .remote))))
+        by-null : (b : Bool) → isDone (f .answer) ≡ true → isNull (f .state) ≡ b →
+            P (cond b emptied (movedTo c (f .state) (lastAfter (f .gives) (c .last)) (cond (f .stores) (numberBrought e) (c .remote))))
         by-null true d p = ended d p
         by-null false d p = on d p
 
@@ -159,7 +161,8 @@ module _ (half : Half) (L : claim.Lawful half) where
         by true g = rw (given-next (c .last) (law .roomy g), lt-ltb (c .last) (c .last + 1) (omega arith))
         by false g = rw (le-ltb (c .last) (c .last) (omega arith))
 
-    balance : (n : ℕ) → count n (heldIn (c .state)) + count n (claim.given c o) ≡ count n (heldIn (o .call .state)) + count n (claim.ended e o)
+    balance : (n : ℕ) →
+        count n (heldIn (c .state)) + count n (claim.given c o) ≡ count n (heldIn (o .call .state)) + count n (claim.ended e o)
     balance n =
         simp (given-same, state-same, received-same (answerNumber (f .answer)) (reported e), count-append) (law .balanced n)
 
@@ -193,7 +196,8 @@ module _ (half : Half) (L : claim.Lawful half) where
     once : claim.Sound c → (n : ℕ) → count n (heldIn (c .state)) + count n (claim.given c o) ≤ 1
     once sound n = rw given-same (by (ltb 0 (count n (heldIn (c .state)))) (ltb 0 (count n (givenBy x f))) refl refl)
       where
-        by : (v w : Bool) → ltb 0 (count n (heldIn (c .state))) ≡ v → ltb 0 (count n (givenBy x f)) ≡ w → count n (heldIn (c .state)) + count n (givenBy x f) ≤ 1
+        by : (v w : Bool) → ltb 0 (count n (heldIn (c .state))) ≡ v → ltb 0 (count n (givenBy x f)) ≡ w →
+            count n (heldIn (c .state)) + count n (givenBy x f) ≤ 1
         by true true p q =
             let held : 0 < count n (heldIn (c .state)) = ltb-true 0 _ p in
             let new : 0 < count n (givenBy x f) = ltb-true 0 _ q in

@@ -31,13 +31,15 @@ module _ (c : Call) where
   pub connect-is : (n : ℕ) (agreed : Bool) → carriedOut c 0 (connectEffect n agreed (c .state)) ≡ eventOf c (Connect n agreed)
   connect-is n agreed = ap (carriedOut c 0) (none-is (standing c) (Connect n agreed) refl)
 
-  pub setup-is : (code : Switchover) (number : ℕ) → carriedOut c number (setupEffect (c .soft) code number (c .remote) (freshAfter (c .last)) (c .state)) ≡ eventOf c (Setup code number)
+  pub setup-is : (code : Switchover) (number : ℕ) →
+      carriedOut c number (setupEffect (c .soft) code number (c .remote) (freshAfter (c .last)) (c .state)) ≡ eventOf c (Setup code number)
   setup-is code number = ap (carriedOut c number) (next-is (standing c) (Setup code number))
 
   pub calling-is : (cause : ReceivedCause) → carriedOut c 0 (callingEffect (c .hard) cause (c .state)) ≡ eventOf c (FromParty cause)
   calling-is cause = ap (carriedOut c 0) (none-is (standing c) (FromParty cause) refl)
 
-  pub called-is : (n : ℕ) (cause : ReceivedCause) (crankback : Crankback) → carriedOut c 0 (calledEffect (c .hard) n cause crankback (freshAfter (c .last)) (c .state)) ≡ eventOf c (FromDomain n cause crankback)
+  pub called-is : (n : ℕ) (cause : ReceivedCause) (crankback : Crankback) →
+      carriedOut c 0 (calledEffect (c .hard) n cause crankback (freshAfter (c .last)) (c .state)) ≡ eventOf c (FromDomain n cause crankback)
   called-is n cause crankback = ap (carriedOut c 0) (next-is (standing c) (FromDomain n cause crankback))
 
   pub ready-is : carriedOut c 0 (readyEffect (c .state)) ≡ eventOf c Ready

@@ -25,7 +25,8 @@ not-late remote s code number = by (isClearing code) (isLate number remote) (isB
     never : {k : ReroutingCause} → k ∷ [] ≡ [] → ⊥
     never e = let z : _≡_ {A = ℕ} 1 0 = ap length e in omega arith
 
-    by : (a b d : Bool) → isLate number remote ≡ b → cond (not a) (unsupported ∷ []) (cond b (oldNumber ∷ []) (cond d (inProgress ∷ []) [])) ≡ [] → remote < number
+    by : (a b d : Bool) → isLate number remote ≡ b →
+        cond (not a) (unsupported ∷ []) (cond b (oldNumber ∷ []) (cond d (inProgress ∷ []) [])) ≡ [] → remote < number
     by true true d p e = absurd (never e)
     by true false true p e = absurd (never e)
     by true false false p e = leb-false number remote p

@@ -3,7 +3,7 @@ use mathlib.Core.Path.{_≡_, refl, sym, _∙_, ap}
 use mathlib.Core.Logic.{⊎-elim}
 use mathlib.Core.Bool.{Bool, true, false}
 use mathlib.Core.List.{List}
-use Prim.Native.Nat.{ℕ, _+_, _-_, _≤_, _<_}
+use Prim.Native.Nat.{ℕ, _+_, _≤_, _<_}
 use native.Mathlib.Nat.{eq-or-lt-of-le}
 use native.Mathlib.Omega.{arith}
 use lib.Dec.{eqb}
@@ -12,12 +12,13 @@ use lib.Seq.{getD-set-same, getD-set-other}
 use borrow.Author.Count.{below-none, below-more}
 use borrow.Author.Tests.{eqb-true, eqb-false}
 use Rattle.distinct.proofs.Laws.{First}
-use Rattle.distinct.specs.Chain.{slotOf, Own, Last, Links, Walk}
+use Rattle.distinct.specs.Chain.{slotOf, Last, Links, Walk}
 
 pub ended : {xs nexts : List ℕ} {i x a : ℕ} → Walk xs nexts i x a → a ≡ 0 → (j : ℕ) → j < i → getD xs j 0 ≡ x → ⊥
 ended w z j l e = let g = w .rest j l e in omega arith
 
-pub onward : {xs nexts : List ℕ} {i x a : ℕ} → Walk xs nexts i x a → (p : ℕ) → a ≡ p + 1 → (getD xs p 0 ≡ x → ⊥) → Walk xs nexts i x (getD nexts p 0)
+pub onward : {xs nexts : List ℕ} {i x a : ℕ} → Walk xs nexts i x a → (p : ℕ) → a ≡ p + 1 → (getD xs p 0 ≡ x → ⊥) →
+    Walk xs nexts i x (getD nexts p 0)
 onward {xs} {nexts} {i} {x} {a} w p e ne =
     let lp : p < i = omega (arith, w .low) in
     let s : slotOf (getD xs p 0) ≡ slotOf x = w .own p e in
@@ -113,7 +114,8 @@ module _ {xs heads nexts : List ℕ} {i : ℕ} (m : Chained xs heads nexts i) (l
         links = linked;
       }
 
-  headed : (b : ℕ) → b < 1024 → (t : Bool) → eqb b (slotOf (getD xs i 0)) ≡ t → Last xs (i + 1) b (getD (set heads (slotOf (getD xs i 0)) (i + 1)) b 0)
+  headed : (b : ℕ) → b < 1024 → (t : Bool) → eqb b (slotOf (getD xs i 0)) ≡ t →
+      Last xs (i + 1) b (getD (set heads (slotOf (getD xs i 0)) (i + 1)) b 0)
   headed b lb true e =
       let s = slotOf (getD xs i 0) in
       let q : b ≡ s = eqb-true b s e in
@@ -123,7 +125,8 @@ module _ {xs heads nexts : List ℕ} {i : ℕ} (m : Chained xs heads nexts i) (l
       let s = slotOf (getD xs i 0) in
       rw (getD-set-other heads s b (i + 1) 0 (eqb-false b s e)) (keep-last (m .last b lb) (λ _ g. eqb-false b s e (sym g)))
 
-  pub put : ((j : ℕ) → j < i → getD xs j 0 ≡ getD xs i 0 → ⊥) → Chained xs (set heads (slotOf (getD xs i 0)) (i + 1)) (set nexts i (getD heads (slotOf (getD xs i 0)) 0)) (i + 1)
+  pub put : ((j : ℕ) → j < i → getD xs j 0 ≡ getD xs i 0 → ⊥) →
+      Chained xs (set heads (slotOf (getD xs i 0)) (i + 1)) (set nexts i (getD heads (slotOf (getD xs i 0)) 0)) (i + 1)
   put none =
       record {
         within = omega arith;

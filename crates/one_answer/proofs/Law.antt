@@ -28,11 +28,13 @@ pub told : {A L : Type 0} {r s x : A} {left : L} → x ≡ r → x ≡ s → (r 
 told p q = (sym p ∙ q, refl)
 
 -- an equation for the result, and one for what the first parameter holds at exit; no other is lent to be written
-pub result-and-lent : {A B L : Type 0} {r s x : A} {y : B} {left other : B × L} → left .1 ≡ other .1 → (r ≡ x) × (left .0 ≡ y) → (s ≡ x) × (other .0 ≡ y) → (r ≡ s) × (left ≡ other)
+pub result-and-lent : {A B L : Type 0} {r s x : A} {y : B} {left other : B × L} → left .1 ≡ other .1 → (r ≡ x) × (left .0 ≡ y) →
+    (s ≡ x) × (other .0 ≡ y) → (r ≡ s) × (left ≡ other)
 result-and-lent e p q = (same (p .0) (q .0), pairs (same (p .1) (q .1)) e)
 
 -- one equation for the buffer at exit and the place answered, as a page
-pub paged : {L : Type 0} {r s : ℕ} {x : Page} {left other : List ℕ × L} → left .1 ≡ other .1 → page (left .0) r ≡ x → page (other .0) s ≡ x → (r ≡ s) × (left ≡ other)
+pub paged : {L : Type 0} {r s : ℕ} {x : Page} {left other : List ℕ × L} → left .1 ≡ other .1 → page (left .0) r ≡ x →
+    page (other .0) s ≡ x → (r ≡ s) × (left ≡ other)
 paged e p q = (ap (λ (x : Page). x .at) (same p q), pairs (ap (λ (x : Page). x .bytes) (same p q)) e)
 
 -- one equation for what a part holds and one for where it stands; nothing is lent to be written

@@ -35,21 +35,25 @@ use Rattle.promises.specs.Source.{asAct, ours, source}
 use Rattle.source_table.specs.Claims as table
 
 -- ---- what an answer 0 says: the table is fit, the key is not 0, and the key stands or does not
-pub done-fit : (ys : List Call) (key : ℕ) (act : Act) → table.answered sourceHalf ys key act ≡ 0 → (fitTable ys ≡ true) × ((eqb key 0 ≡ false) × (table.answerFor sourceHalf ys key act ≡ 0))
+pub done-fit : (ys : List Call) (key : ℕ) (act : Act) → table.answered sourceHalf ys key act ≡ 0 →
+    (fitTable ys ≡ true) × ((eqb key 0 ≡ false) × (table.answerFor sourceHalf ys key act ≡ 0))
 done-fit ys key act done = by-tests (fitTable ys) (eqb key 0) refl refl (sym (answers-in-order ys key act) ∙ done)
   where
-    by-tests : (fit nought : Bool) → fitTable ys ≡ fit → eqb key 0 ≡ nought → cond fit (cond nought 102 (table.answerFor sourceHalf ys key act)) 101 ≡ 0 →
+    by-tests : (fit nought : Bool) → fitTable ys ≡ fit → eqb key 0 ≡ nought →
+        cond fit (cond nought 102 (table.answerFor sourceHalf ys key act)) 101 ≡ 0 →
         (fitTable ys ≡ true) × ((eqb key 0 ≡ false) × (table.answerFor sourceHalf ys key act ≡ 0))
     by-tests true false f n e = (f, (n, e))
     by-tests true true f n e = absurd (omega arith)
     by-tests false nought f n e = absurd (omega arith)
 
 -- what holds of each record holds of the one of a key that stands
-each-of : (P : Call → Type 0) (k : ℕ) (ys : List Call) → ((i : ℕ) → i < length ys → P (getD ys i emptied)) → table.onRecord k ys ≡ true → P (table.callOf k ys)
+each-of : (P : Call → Type 0) (k : ℕ) (ys : List Call) → ((i : ℕ) → i < length ys → P (getD ys i emptied)) → table.onRecord k ys ≡ true →
+    P (table.callOf k ys)
 each-of P k [] each h = absurd (false≢true h)
 each-of P k (c ∷ cs) each h = by-test (eqb (c .key) k) h (each-of P k cs (λ i l. each (suc i) (suc-le-suc l)))
   where
-    by-test : (b : Bool) → (b || table.onRecord k cs) ≡ true → (table.onRecord k cs ≡ true → P (table.callOf k cs)) → P (cond b c (table.callOf k cs))
+    by-test : (b : Bool) → (b || table.onRecord k cs) ≡ true → (table.onRecord k cs ≡ true → P (table.callOf k cs)) →
+        P (cond b c (table.callOf k cs))
     by-test true t rest = each 0 (suc-le-suc zero-le)
     by-test false t rest = rest t
 
@@ -57,7 +61,8 @@ key-of : (k : ℕ) (ys : List Call) → table.onRecord k ys ≡ true → table.c
 key-of k ys h = has-key (source .key) emptied k ys h
 
 -- the call of a key that stands in a fit table is in use
-pub live-of : (k : ℕ) (ys : List Call) → (k ≡ 0 → ⊥) → fitTable ys ≡ true → table.onRecord k ys ≡ true → isNull (table.callOf k ys .state) ≡ false
+pub live-of : (k : ℕ) (ys : List Call) → (k ≡ 0 → ⊥) → fitTable ys ≡ true → table.onRecord k ys ≡ true →
+    isNull (table.callOf k ys .state) ≡ false
 live-of k ys named fit h =
     each-of table.FitRecord k ys (fit-exactly ys .0 fit .each) h .used (λ nought. named (sym (key-of k ys h) ∙ nought)) .live
 
@@ -83,7 +88,8 @@ opening-law ys k w done =
     by-tests true free h f e = absurd (omega arith)
 
 -- ---- events
-standing : (ys : List Call) (k : ℕ) (e : Event) → table.answerFor sourceHalf ys k (Meets e) ≡ 0 → (table.onRecord k ys ≡ true) × (answerNumber (eventOf (table.callOf k ys) e .answer) ≡ 0)
+standing : (ys : List Call) (k : ℕ) (e : Event) → table.answerFor sourceHalf ys k (Meets e) ≡ 0 →
+    (table.onRecord k ys ≡ true) × (answerNumber (eventOf (table.callOf k ys) e .answer) ≡ 0)
 standing ys k e done = by-test (table.onRecord k ys) refl done
   where
     by-test : (here : Bool) → table.onRecord k ys ≡ here → cond (not here) 105 (answerNumber (eventOf (table.callOf k ys) e .answer)) ≡ 0 →
@@ -122,7 +128,8 @@ never-nought x (n ∷ ns) positive h =
     let other : one x n ≡ 0 = one-other x n (λ s. omega arith) in
     omega (arith, never-nought x ns positive (h .1))
 
-at-most-one : (x last now m : ℕ) (ns : List ℕ) → AllAre now ns → length ns ≤ m → m ≤ 1 → now ≡ last + m → count x ns ≤ count x (cond (ltb last now) (now ∷ []) [])
+at-most-one : (x last now m : ℕ) (ns : List ℕ) → AllAre now ns → length ns ≤ m → m ≤ 1 → now ≡ last + m →
+    count x ns ≤ count x (cond (ltb last now) (now ∷ []) [])
 at-most-one x last now m [] own few one′ grown = zero-le
 at-most-one x last now m (n ∷ []) own few one′ grown =
     let same : count x (n ∷ []) ≡ count x (now ∷ []) = ap (λ k. count x (k ∷ [])) (own .0) in
@@ -139,7 +146,8 @@ asked-for c e live x positive = by-state (isNull (eventOf c e .call .state)) ref
     own : AllAre (eventOf c e .call .last) (named sent)
     own = signals-name-their-own c e _ refl .1 .1 .1
 
-    by-state : (b : Bool) → isNull (eventOf c e .call .state) ≡ b → count x (source .requested (eventOf c e .signals)) ≤ count x (givenBetween source c (eventOf c e .call))
+    by-state : (b : Bool) → isNull (eventOf c e .call .state) ≡ b →
+        count x (source .requested (eventOf c e .signals)) ≤ count x (givenBetween source c (eventOf c e .call))
     by-state false h =
         let last = last-by-one c e _ refl h in
         let few = at-most-one x (c .last) (eventOf c e .call .last) _ (named sent) own (omega (arith, length-named sent)) (last .1) (last .0) in

@@ -14,7 +14,7 @@ use Rattle.runs.specs.Demand.{TurnsAway}
 use Rattle.runs.specs.Late.{Late, LateOrUnsupported, Rejected, SetupFor, Unsupported}
 use Rattle.runs.specs.Run.{KeyedRequest, Table, callByKey, emptyTable, meets}
 use Rattle.signal.specs.Causes.{oldNumber, unsupported}
-use Rattle.signal.specs.Numbers.{answerNumber, hasSymmetric, isClearing}
+use Rattle.signal.specs.Numbers.{answerNumber, isClearing}
 use Rattle.signal.specs.Signals.{places, rejection}
 use Rattle.signal.specs.declared.Signal.{Signal}
 use Rattle.signal.specs.declared.Soft.{Soft}
@@ -69,7 +69,8 @@ has-meaning (SoftProceeding i r) code number h = refl
 has-meaning (SoftInitiated i r) code number h = refl
 has-meaning (Awaiting i r) code number h = refl
 
-setup-means : (c : Call) (code : Switchover) (number : ℕ) → c .soft ≡ Symmetric → isNull (c .state) ≡ false → meaningless (c .soft) (c .state) (Setup code number) ≡ false
+setup-means : (c : Call) (code : Switchover) (number : ℕ) → c .soft ≡ Symmetric → isNull (c .state) ≡ false →
+    meaningless (c .soft) (c .state) (Setup code number) ≡ false
 setup-means c code number symmetric live = ap (λ s. meaningless s (c .state) (Setup code number)) symmetric ∙ has-meaning (c .state) code number live
 
 -- the reject that is wanted: #8 where the code is not "clearing", else #5
@@ -84,7 +85,8 @@ wanted-late c code number symmetric live late = rw (setup-means c code number sy
     by-code true = refl
     by-code false = refl
 
-wanted-unsupported : (c : Call) (code : Switchover) (number : ℕ) → c .soft ≡ Symmetric → isNull (c .state) ≡ false → isClearing code ≡ false →
+wanted-unsupported : (c : Call) (code : Switchover) (number : ℕ) → c .soft ≡ Symmetric → isNull (c .state) ≡ false →
+    isClearing code ≡ false →
     rejectionWanted sourceDemands (standing c) (Setup code number) ≡ reject code ∷ []
 wanted-unsupported c code number symmetric live other = rw (setup-means c code number symmetric live, other)
 
@@ -99,7 +101,8 @@ replaced-self k (c ∷ cs) = by-test (eqb (c .key) k) (replaced-self k cs)
     by-test false rest = ap (λ t. c ∷ t) rest
 
 -- over a fit table, a setup whose rejection is wanted is answered 0 with it, and changes no record
-turned-away : (ys : Table source) (k : ℕ) (code : Switchover) (number : ℕ) (r : Signal) → table.FitTable ys → (k ≡ 0 → ⊥) → table.onRecord k ys ≡ true →
+turned-away : (ys : Table source) (k : ℕ) (code : Switchover) (number : ℕ) (r : Signal) → table.FitTable ys → (k ≡ 0 → ⊥) →
+    table.onRecord k ys ≡ true →
     rejectionWanted sourceDemands (standing (table.callOf k ys)) (Setup code number) ≡ r ∷ [] →
     (table.answered sourceHalf ys k (Meets (Setup code number)) ≡ 0)
     × ((ranOf sourceHalf ys k (Meets (Setup code number)) .done .signals ≡ places (r ∷ [])) × (tableOf sourceHalf ys k (Meets (Setup code number)) ≡ ys))
@@ -111,10 +114,16 @@ turned-away ys k code number r fit named here wanted =
     (done, (changed .1 ∙ left .1 .1, changed .0 ∙ (ap (λ c. table.replacedFor k c ys) (left .1 .0) ∙ replaced-self k ys)))
 
 -- the call of a setup is in use, with symmetric service
-is-symmetric : (s : Soft) → hasSymmetric s ≡ true → s ≡ Symmetric
-is-symmetric NoSoft h = absurd (false≢true h)
-is-symmetric Asymmetric h = absurd (false≢true h)
-is-symmetric Symmetric h = refl
+is-symmetric : (c : Call) → numbering .takes c ≡ true → c .soft ≡ Symmetric
+is-symmetric c h = by (c .soft) refl
+  where
+    served : Soft → Call
+    served s = record { key = c .key; hard = c .hard; soft = s; state = c .state; last = c .last; remote = c .remote }
+
+    by : (s : Soft) → c .soft ≡ s → s ≡ Symmetric
+    by NoSoft e = absurd (false≢true (ap (λ s. numbering .takes (served s)) (sym e) ∙ h))
+    by Asymmetric e = absurd (false≢true (ap (λ s. numbering .takes (served s)) (sym e) ∙ h))
+    by Symmetric e = refl
 
 -- only a setup has a number
 no-number : {n : ℕ} → _≡_ {A = List ℕ} [] (n ∷ []) → ⊥
@@ -135,7 +144,8 @@ is-setup (FromDomain k cause crankback) n numbered = absurd (no-number numbered)
 is-setup Ready n numbered = absurd (no-number numbered)
 is-setup Expiry n numbered = absurd (no-number numbered)
 
-setup-rejected : (ys : Table source) (a : KeyedRequest source) (code : Switchover) (number : ℕ) → table.FitTable ys → (a .key ≡ 0 → ⊥) → onRecord (source .key) (a .key) ys ≡ true →
+setup-rejected : (ys : Table source) (a : KeyedRequest source) (code : Switchover) (number : ℕ) → table.FitTable ys → (a .key ≡ 0 → ⊥) →
+    onRecord (source .key) (a .key) ys ≡ true →
     rejectionWanted sourceDemands (standing (callByKey source (a .key) ys)) (Setup code number) ≡ reject code ∷ [] →
     a .does ≡ meets (Setup code number) → Rejected source numbering ys a (ours ys a)
 setup-rejected ys a code number fit named here wanted is =
@@ -157,14 +167,16 @@ rejected-by ys a e n fit setup wanted =
     let is = is-setup e n (setup .numbered) in
     let c = callByKey source (a .key) ys in
     setup-rejected ys a (is .0) n fit (setup .named) (setup .known)
-    (wanted (is .0) (is .1) (is-symmetric (c .soft) (setup .taken)) (live-of (a .key) ys (setup .named) (fit-exactly ys .1 fit) (setup .known)))
+    (wanted (is .0) (is .1) (is-symmetric c (setup .taken)) (live-of (a .key) ys (setup .named) (fit-exactly ys .1 fit) (setup .known)))
     (setup .is ∙ ap meets (is .1))
 
-late-rejected : (ys : Table source) (a : KeyedRequest source) → table.FitTable ys → Late source numbering ys a → Rejected source numbering ys a (ours ys a)
+late-rejected : (ys : Table source) (a : KeyedRequest source) → table.FitTable ys → Late source numbering ys a →
+    Rejected source numbering ys a (ours ys a)
 late-rejected ys a fit (e, (n, (setup, late))) =
     rejected-by ys a e n fit setup (λ code is symmetric live. wanted-late (callByKey source (a .key) ys) code n symmetric live late)
 
-unsupported-rejected : (ys : Table source) (a : KeyedRequest source) → table.FitTable ys → Unsupported source numbering ys a → Rejected source numbering ys a (ours ys a)
+unsupported-rejected : (ys : Table source) (a : KeyedRequest source) → table.FitTable ys → Unsupported source numbering ys a →
+    Rejected source numbering ys a (ours ys a)
 unsupported-rejected ys a fit (e, (n, (setup, other))) =
     rejected-by ys a e n fit setup
     (λ code is symmetric live. wanted-unsupported (callByKey source (a .key) ys) code n symmetric live (sym (ap asksSupported is) ∙ other))
@@ -195,10 +207,12 @@ turns-away =
       rejects = rejects;
     }
   where
-    by-length : (n : ℕ) (b : Bool) → ltb 1024 n ≡ b → table.FitTable (emptyTable source n) ⊎ ((a : KeyedRequest source) → ours (emptyTable source n) a .answer ≡ 0 → ⊥)
+    by-length : (n : ℕ) (b : Bool) → ltb 1024 n ≡ b →
+        table.FitTable (emptyTable source n) ⊎ ((a : KeyedRequest source) → ours (emptyTable source n) a .answer ≡ 0 → ⊥)
     by-length n false t = inl (empty-fit n (ltb-false 1024 n t))
     by-length n true t = inr (refused-throughout n (ltb-true 1024 n t))
 
-    rejects : (ys : Table source) (a : KeyedRequest source) → table.FitTable ys → LateOrUnsupported source numbering ys a → Rejected source numbering ys a (ours ys a)
+    rejects : (ys : Table source) (a : KeyedRequest source) → table.FitTable ys → LateOrUnsupported source numbering ys a →
+        Rejected source numbering ys a (ours ys a)
     rejects ys a fit (inl late) = late-rejected ys a fit late
     rejects ys a fit (inr other) = unsupported-rejected ys a fit other

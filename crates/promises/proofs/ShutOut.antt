@@ -23,7 +23,8 @@ use Rattle.promises.specs.Source.{source, numbering, document, ours}
 use Rattle.promises.specs.Claims.{DemandThree}
 use Rattle.promises.specs.Inserted.{b4, awaiting}
 use Rattle.promises.specs.ShutOut as claim
-use Rattle.promises.specs.ShutOut.{opening, switched, initiated, ready, isJustOpened, moved, inventing, keepingOne, endingTwice, namingNotGiven, takingLate, withB4}
+use Rattle.promises.specs.ShutOut.{opening, switched, initiated, ready, isJustOpened, moved, inventing, keepingOne, endingTwice}
+use Rattle.promises.specs.ShutOut.{namingNotGiven, takingLate, withB4}
 use Rattle.promises.proofs.Claims.{answers-exactly, one-number}
 use Rattle.promises.proofs.Inserted.{b4-is-late}
 
@@ -84,7 +85,8 @@ inventing-is-shut-out h =
     omega arith
 
 -- Number 1 is given, and is to be held, or ended exactly once,
-never-once : (C : Control source) → length (logAt C switched .given) ≡ 2 → (count 1 (logAt C switched .ended) + count 1 (source .held (recordAt C switched)) ≡ 1 → ⊥) →
+never-once : (C : Control source) → length (logAt C switched .given) ≡ 2 →
+    (count 1 (logAt C switched .ended) + count 1 (source .held (recordAt C switched)) ≡ 1 → ⊥) →
     claim.BreaksAccount C switched
 never-once C two wrong h = wrong (either (h .accounted 1 (omega arith) (omega arith)))
   where

@@ -2,7 +2,7 @@
 use Prim.Native.Nat.{_*_, _+_, _≤_, ℕ}
 use native.Mathlib.Nat.{add-mul, one-mul, zero-mul}
 use native.Mathlib.Omega.{arith}
-use mathlib.Core.Bool.{Bool, cond, false, not, true}
+use mathlib.Core.Bool.{Bool, cond, false, false≢true, not, true}
 use mathlib.Core.List.{List, [], _++_, _∷_}
 use mathlib.Core.Path.{_∙_, _≡_, ap, refl}
 use lib.ListN.{length}
@@ -47,7 +47,8 @@ values-append s n (x ∷ a) b = ap (λ l. value s n x ∷ l) (values-append s n 
 
 -- a count is the tallies of the slots, each times its own
 module _ (x : ℕ) (s : State) (n : ℕ) where
-  weighed : (l : List Slot) → count x (valuesOf s n l) ≡ tally NoSlot l * one x 0 + (tally OldIncumbent l * one x (incumbentOf s) + (tally OldRerouting l * one x (reroutingOf s) + tally NewNumber l * one x n))
+  weighed : (l : List Slot) →
+      count x (valuesOf s n l) ≡ tally NoSlot l * one x 0 + (tally OldIncumbent l * one x (incumbentOf s) + (tally OldRerouting l * one x (reroutingOf s) + tally NewNumber l * one x n))
   weighed [] = simp (zero-mul) (omega arith)
   weighed (NoSlot ∷ l) = simp (weighed l, add-mul, one-mul, zero-mul) (omega arith)
   weighed (OldIncumbent ∷ l) = simp (weighed l, add-mul, one-mul, zero-mul) (omega arith)
@@ -71,7 +72,8 @@ held-before (SoftProceeding i r) n = refl
 held-before (SoftInitiated i r) n = refl
 held-before (Awaiting i r) n = refl
 
-held-after : (s : State) (n : ℕ) (phase : Phase) (i r : Slot) → heldIn (built phase (value s n i) (value s n r)) ≡ valuesOf s n (slotsOf phase i r)
+held-after : (s : State) (n : ℕ) (phase : Phase) (i r : Slot) →
+    heldIn (built phase (value s n i) (value s n r)) ≡ valuesOf s n (slotsOf phase i r)
 held-after s n AtNull i r = refl
 held-after s n AtIdle i r = refl
 held-after s n AtHardWaiting i r = refl
@@ -97,11 +99,13 @@ party-ends : (node : Node) (got : ReceivedCause) (t : Told) → endedSent (toldS
 party-ends SourceNode got Untold = refl
 party-ends SourceNode got (Tells say code) = refl
 
-retires-ends : (s : State) (n : ℕ) (got : ReceivedCause) (t : Told) → endedSent (toldSent IncumbentRelease (incumbentOf s) got t) ≡ valuesOf s n (cond (isTold t) (OldIncumbent ∷ []) [])
+retires-ends : (s : State) (n : ℕ) (got : ReceivedCause) (t : Told) →
+    endedSent (toldSent IncumbentRelease (incumbentOf s) got t) ≡ valuesOf s n (cond (isTold t) (OldIncumbent ∷ []) [])
 retires-ends s n got Untold = refl
 retires-ends s n got (Tells say code) = refl
 
-drops-ends : (s : State) (n : ℕ) (got : ReceivedCause) (t : Told) → endedSent (toldSent ReroutingRelease (reroutingOf s) got t) ≡ valuesOf s n (cond (isTold t) (OldRerouting ∷ []) [])
+drops-ends : (s : State) (n : ℕ) (got : ReceivedCause) (t : Told) →
+    endedSent (toldSent ReroutingRelease (reroutingOf s) got t) ≡ valuesOf s n (cond (isTold t) (OldRerouting ∷ []) [])
 drops-ends s n got Untold = refl
 drops-ends s n got (Tells say code) = refl
 
@@ -118,7 +122,8 @@ pad-ends (a ∷ (b ∷ [])) = refl
 pad-ends (a ∷ (b ∷ (c ∷ []))) = refl
 pad-ends (a ∷ (b ∷ (c ∷ (d ∷ more)))) = refl
 
-ended-is : (node : Node) (s : State) (n : ℕ) (got : ReceivedCause) (rule : Rule) → endedSent (sentBy node s n got rule) ≡ valuesOf s n (endedSlots rule)
+ended-is : (node : Node) (s : State) (n : ℕ) (got : ReceivedCause) (rule : Rule) →
+    endedSent (sentBy node s n got rule) ≡ valuesOf s n (endedSlots rule)
 ended-is node s n got rule =
     simp (ended-append, timer-ends, switch-ends, party-ends, retires-ends s n got (rule .retires), drops-ends s n got (rule .drops), closing-ends, append-none, values-append)
 
@@ -153,12 +158,15 @@ own-gives AtSoftInitiated = refl
 own-gives AtAwaiting = refl
 
 -- the connection whose release came, as a slot
-named-is : (s : State) (n x : ℕ) (b d : Bool) → isIncumbent s x ≡ b → isRerouting s x ≡ d → not (isOther (cond b NamesIncumbent (cond d NamesRerouting NamesOther))) ≡ true → x ∷ [] ≡ valuesOf s n (roleSlots (cond b NamesIncumbent (cond d NamesRerouting NamesOther)))
+named-is : (s : State) (n x : ℕ) (b d : Bool) → isIncumbent s x ≡ b → isRerouting s x ≡ d →
+    not (isOther (cond b NamesIncumbent (cond d NamesRerouting NamesOther))) ≡ true →
+    x ∷ [] ≡ valuesOf s n (roleSlots (cond b NamesIncumbent (cond d NamesRerouting NamesOther)))
 named-is s n x true d p q known = ap (λ y. y ∷ []) (eqb-true x (incumbentOf s) (right (holdsIncumbent (phaseOf s)) _ p))
 named-is s n x false true p q known = ap (λ y. y ∷ []) (eqb-true x (reroutingOf s) (right (holdsRerouting (phaseOf s)) _ q))
-named-is s n x false false p q known = absurd (let z : _≡_ {A = ℕ} 0 1 = cc in omega arith)
+named-is s n x false false p q known = absurd (false≢true known)
 
-got-is : (s : State) (n remote : ℕ) (e : Event) → knowsNamed (happeningOf s remote e) ≡ true → reported e ≡ valuesOf s n (reportedSlots (happeningOf s remote e))
+got-is : (s : State) (n remote : ℕ) (e : Event) → knowsNamed (happeningOf s remote e) ≡ true →
+    reported e ≡ valuesOf s n (reportedSlots (happeningOf s remote e))
 got-is s n remote Trigger known = refl
 got-is s n remote PathFound known = refl
 got-is s n remote NoPath known = refl
@@ -169,11 +177,14 @@ got-is s n remote (FromDomain x cause crankback) known = named-is s n x (isIncum
 got-is s n remote Ready known = refl
 got-is s n remote Expiry known = refl
 
-counts : (x : ℕ) (s : State) (n : ℕ) (a b : List Slot) → count x (valuesOf s n (a ++ b)) ≡ count x (valuesOf s n a) + count x (valuesOf s n b)
+counts : (x : ℕ) (s : State) (n : ℕ) (a b : List Slot) →
+    count x (valuesOf s n (a ++ b)) ≡ count x (valuesOf s n a) + count x (valuesOf s n b)
 counts x s n a b = simp (values-append, count-append)
 
 -- five lists of numbers that are five lists of slots balance as the slots do
-summed : (x : ℕ) (s : State) (n : ℕ) (a b k g d : List Slot) (held given kept got sent : List ℕ) → held ≡ valuesOf s n a → given ≡ valuesOf s n b → kept ≡ valuesOf s n k → got ≡ valuesOf s n g → sent ≡ valuesOf s n d → Each (tallies (a ++ b) (k ++ (g ++ d))) → count x held + count x given ≡ count x kept + (count x got + count x sent)
+summed : (x : ℕ) (s : State) (n : ℕ) (a b k g d : List Slot) (held given kept got sent : List ℕ) → held ≡ valuesOf s n a →
+    given ≡ valuesOf s n b → kept ≡ valuesOf s n k → got ≡ valuesOf s n g → sent ≡ valuesOf s n d →
+    Each (tallies (a ++ b) (k ++ (g ++ d))) → count x held + count x given ≡ count x kept + (count x got + count x sent)
 summed x s n a b k g d held given kept got sent p q r t u balance =
     rw (p, q, r, t, u) (omega (arith, same-counts x s n (a ++ b) (k ++ (g ++ d)) balance, counts x s n a b, counts x s n k (g ++ d), counts x s n g d))
 
@@ -182,7 +193,9 @@ pub record Stays (s : State) (n : ℕ) (rule : Rule) : Type 0 where
   pub state : stateAfter s n rule ≡ s
   pub gives : givesNew rule ≡ false
 
-pub stays-put : (s : State) (n : ℕ) (rule : Rule) → samePhase (rule .phase) (phaseOf s) ≡ true → sameSlot (rule .incumbent) (ownIncumbent (phaseOf s)) ≡ true → sameSlot (rule .rerouting) (ownRerouting (phaseOf s)) ≡ true → Stays s n rule
+pub stays-put : (s : State) (n : ℕ) (rule : Rule) → samePhase (rule .phase) (phaseOf s) ≡ true →
+    sameSlot (rule .incumbent) (ownIncumbent (phaseOf s)) ≡ true → sameSlot (rule .rerouting) (ownRerouting (phaseOf s)) ≡ true →
+    Stays s n rule
 stays-put s n rule p q r =
     let phase = phase-same (rule .phase) (phaseOf s) p in
     let i = slot-same (rule .incumbent) (ownIncumbent (phaseOf s)) q in

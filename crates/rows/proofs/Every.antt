@@ -1,5 +1,5 @@
 -- What passes at every value holds of each. Assumes nothing.
-use mathlib.Core.Bool.{Bool, _&&_, false, true}
+use mathlib.Core.Bool.{Bool, _&&_, false, false≢true, true}
 use mathlib.Core.List.{List, [], _∷_}
 use mathlib.Core.Path.{_≡_, refl}
 use Rattle.signal.specs.declared.Crankback.{Crankback}
@@ -20,7 +20,7 @@ left false b p = p
 
 pub right : (a b : Bool) → a && b ≡ true → b ≡ true
 right true b p = p
-right false b p = let z : _≡_ {A = Bool} true false = cc in cc
+right false b p = absurd (false≢true p)
 
 -- each of the tests passes
 abbrev pub Each : List Bool → Type 0

@@ -25,13 +25,15 @@ itemsHold papers c rule = not (isDone (rule .answer)) || (allHold (papers .items
 pub where-so : (a b : Bool) → a ≡ true → not a || b ≡ true → b ≡ true
 where-so a b so p = or-right (not a) b (ap not so) p
 
-one-holds : (c : Case) (rule : Rule) (before after : List Item) (item : Item) → allHold (before ++ (item ∷ after)) c rule ≡ true → item .speaks c ≡ true → itemHolds item rule ≡ true
+one-holds : (c : Case) (rule : Rule) (before after : List Item) (item : Item) → allHold (before ++ (item ∷ after)) c rule ≡ true →
+    item .speaks c ≡ true → itemHolds item rule ≡ true
 one-holds c rule [] after item p speaks =
     where-so (item .speaks c) (itemHolds item rule) speaks (left _ (allHold after c rule) p)
 one-holds c rule (first ∷ before) after item p speaks =
     one-holds c rule before after item (right (not (first .speaks c) || itemHolds first rule) _ p) speaks
 
-one-fails : (c : Case) (rule : Rule) (before after : List Item) (item : Item) → noneHold (before ++ (item ∷ after)) c rule ≡ true → item .speaks c ≡ true → not (itemHolds item rule) ≡ true
+one-fails : (c : Case) (rule : Rule) (before after : List Item) (item : Item) → noneHold (before ++ (item ∷ after)) c rule ≡ true →
+    item .speaks c ≡ true → not (itemHolds item rule) ≡ true
 one-fails c rule [] after item p speaks =
     where-so (item .speaks c) (not (itemHolds item rule)) speaks (left _ (noneHold after c rule) p)
 one-fails c rule (first ∷ before) after item p speaks =
@@ -43,12 +45,14 @@ module _ (papers : Papers) (c : Case) (rule : Rule) (passes : itemsHold papers c
   both-pass = where-so (isDone (rule .answer)) _ done passes
 
   -- wherever an item stands in the list: it holds
-  pub held : (before after : List Item) (item : Item) → papers .items c ≡ before ++ (item ∷ after) → item .speaks c ≡ true → itemHolds item rule ≡ true
+  pub held : (before after : List Item) (item : Item) → papers .items c ≡ before ++ (item ∷ after) → item .speaks c ≡ true →
+      itemHolds item rule ≡ true
   held before after item stands =
       one-holds c rule before after item (ap (λ l. allHold l c rule) (sym stands) ∙ left _ (noneHold (papers .departed c) c rule) both-pass)
 
   -- or, if 01 departs from it, fails
-  pub departed : (before after : List Item) (item : Item) → papers .departed c ≡ before ++ (item ∷ after) → item .speaks c ≡ true → itemHolds item rule ≡ false
+  pub departed : (before after : List Item) (item : Item) → papers .departed c ≡ before ++ (item ∷ after) → item .speaks c ≡ true →
+      itemHolds item rule ≡ false
   departed before after item stands speaks =
       not-so (itemHolds item rule)
       (one-fails c rule before after item (ap (λ l. noneHold l c rule) (sym stands) ∙ right (allHold (papers .items c) c rule) _ both-pass) speaks)

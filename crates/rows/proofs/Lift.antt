@@ -13,7 +13,8 @@ use Rattle.rows.specs.Rules.{Rule}
 use Rattle.rows.proofs.Balance as balance
 use Rattle.rows.proofs.Signals as signals
 
-pub row-kept : (node : Node) (x : Standing) (e : Event) (rule : Rule) → isLawful (caseOf x e) rule ≡ true → Kept node x e (effect node (x .state) (x .last + 1) (receivedIn e) rule)
+pub row-kept : (node : Node) (x : Standing) (e : Event) (rule : Rule) → isLawful (caseOf x e) rule ≡ true →
+    Kept node x e (effect node (x .state) (x .last + 1) (receivedIn e) rule)
 row-kept node x e rule p =
     let t : Each (laws (caseOf x e) rule) = each (laws (caseOf x e) rule) p in
     let fit = t .0 in

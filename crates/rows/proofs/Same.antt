@@ -21,7 +21,8 @@ use Rattle.rows.specs.States.{AtAwaiting, AtHardUnderway, AtHardWaiting,
 use Rattle.rows.specs.States.{AtSoftTriggered, Phase, phaseNumber}
 
 -- a value that its number gives back is told by its number
-by-number : {A : Type 0} (number : A → ℕ) (at : ℕ → A) → ((a : A) → at (number a) ≡ a) → (a b : A) → eqb (number a) (number b) ≡ true → a ≡ b
+by-number : {A : Type 0} (number : A → ℕ) (at : ℕ → A) → ((a : A) → at (number a) ≡ a) → (a b : A) → eqb (number a) (number b) ≡ true →
+    a ≡ b
 by-number number at back a b p = sym (back a) ∙ (ap at (eqb-true (number a) (number b) p) ∙ back b)
 
 abbrev timerAt : ℕ → Timer

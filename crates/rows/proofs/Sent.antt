@@ -1,12 +1,12 @@
 -- The signals of a rule, part by part. Assumes nothing.
 use Prim.Native.Nat.{_≤_, ℕ}
 use native.Mathlib.Omega.{arith}
-use mathlib.Core.Bool.{Bool, _||_, cond, false, not, true}
+use mathlib.Core.Bool.{Bool, _||_, cond, false, not, true, true≢false}
 use mathlib.Core.List.{List, [], _++_, _∷_}
 use mathlib.Core.Path.{_≡_, ap, refl}
 use lib.Dec.{eqb}
 use lib.ListN.{length, length-append}
-use Rattle.signal.specs.Counting.{endedSent, kindNumber, ofKind}
+use Rattle.signal.specs.Counting.{endedSent, endsConnection, kindNumber, ofKind}
 use Rattle.signal.specs.Signals.{none, places}
 use Rattle.signal.specs.declared.Kind.{Kind}
 use Rattle.signal.specs.declared.ReceivedCause.{ReceivedCause}
@@ -63,13 +63,13 @@ pub empty-of : {A : Type 0} (l : List A) → length l ≡ 0 → l ≡ []
 empty-of [] h = refl
 empty-of (a ∷ l) h = absurd (omega arith)
 
-cond-append : {A : Type 0} (t : Bool) (x : A) (a b : List A) → cond t (x ∷ (a ++ b)) (a ++ b) ≡ cond t (x ∷ a) a ++ b
+pub cond-append : {A : Type 0} (t : Bool) (x : A) (a b : List A) → cond t (x ∷ (a ++ b)) (a ++ b) ≡ cond t (x ∷ a) a ++ b
 cond-append true x a b = refl
 cond-append false x a b = refl
 
 pub ended-append : (a b : List Signal) → endedSent (a ++ b) ≡ endedSent a ++ endedSent b
 ended-append [] b = refl
-ended-append (s ∷ a) b = rw (ended-append a b) (cond-append (eqb (kindNumber (s .kind)) 5 || eqb (kindNumber (s .kind)) 6) (s .connection) (endedSent a) (endedSent b))
+ended-append (s ∷ a) b = rw (ended-append a b) (cond-append (endsConnection s) (s .connection) (endedSent a) (endedSent b))
 
 pub kind-append : (k : Kind) (a b : List Signal) → ofKind k (a ++ b) ≡ ofKind k a ++ ofKind k b
 kind-append k [] b = refl
@@ -80,5 +80,5 @@ append-none [] = refl
 append-none (a ∷ l) = ap (λ m. a ∷ m) (append-none l)
 
 pub or-right : (a b : Bool) → a ≡ false → a || b ≡ true → b ≡ true
-or-right true b p q = let z : _≡_ {A = Bool} true false = cc in cc
+or-right true b p q = absurd (true≢false p)
 or-right false b p q = q

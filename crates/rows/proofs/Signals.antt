@@ -1,7 +1,7 @@
 -- Timer, names, order, honesty and number of the signals, for any call and event, at either end. Assumes nothing.
 use Prim.Native.Nat.{_+_, _≤_, ℕ}
 use native.Mathlib.Omega.{arith}
-use mathlib.Core.Bool.{Bool, _&&_, _||_, cond, false, false≢true, not, true}
+use mathlib.Core.Bool.{Bool, _&&_, _||_, cond, false, false≢true, not, or-true, true}
 use mathlib.Core.List.{List, [], _++_, _∷_}
 use mathlib.Core.Path.{_∙_, _≡_, ap, refl, sym}
 use lib.Dec.{eqb, ltb}
@@ -60,14 +60,17 @@ switch-other k h s n OldIncumbent = simp h
 switch-other k h s n OldRerouting = simp h
 switch-other k h s n NewNumber = simp h
 
-told-other : (k j : Kind) → eqb (kindNumber j) (kindNumber k) ≡ false → (n : ℕ) (got : ReceivedCause) (t : Told) → ofKind k (toldSent j n got t) ≡ []
+told-other : (k j : Kind) → eqb (kindNumber j) (kindNumber k) ≡ false → (n : ℕ) (got : ReceivedCause) (t : Told) →
+    ofKind k (toldSent j n got t) ≡ []
 told-other k j h n got Untold = refl
 told-other k j h n got (Tells say code) = simp h
 
-party-other : (k : Kind) → eqb 4 (kindNumber k) ≡ false → (node : Node) (got : ReceivedCause) (t : Told) → ofKind k (toldSent (partyKind node) 0 got t) ≡ []
+party-other : (k : Kind) → eqb 4 (kindNumber k) ≡ false → (node : Node) (got : ReceivedCause) (t : Told) →
+    ofKind k (toldSent (partyKind node) 0 got t) ≡ []
 party-other k h SourceNode got t = told-other k CallingRelease h 0 got t
 
-closing-other : (k : Kind) → eqb 7 (kindNumber k) ≡ false → eqb 8 (kindNumber k) ≡ false → eqb 9 (kindNumber k) ≡ false → (s : State) (n : ℕ) (got : ReceivedCause) (x : Closing) → ofKind k (closingSent s n got x) ≡ []
+closing-other : (k : Kind) → eqb 7 (kindNumber k) ≡ false → eqb 8 (kindNumber k) ≡ false → eqb 9 (kindNumber k) ≡ false →
+    (s : State) (n : ℕ) (got : ReceivedCause) (x : Closing) → ofKind k (closingSent s n got x) ≡ []
 closing-other k f g h s n got NoClosing = refl
 closing-other k f g h s n got (SendsSetup slot) = simp f
 closing-other k f g h s n got (SendsConnect slot) = simp g
@@ -97,7 +100,7 @@ incumbent-built AtSoftProceeding i r h = eq-eqb i i refl
 incumbent-built AtSoftInitiated i r h = eq-eqb i i refl
 incumbent-built AtAwaiting i r h = eq-eqb i i refl
 
-hard-is : (s : State) → isHardPhase (phaseOf s) ≡ isHard s
+pub hard-is : (s : State) → isHardPhase (phaseOf s) ≡ isHard s
 hard-is Null = refl
 hard-is (Idle i) = refl
 hard-is HardWaiting = refl
@@ -135,31 +138,36 @@ starts-wanted false true false = refl
 starts-wanted expired false true = refl
 starts-wanted expired false false = refl
 
-stops-wanted : (expired before after : Bool) → ofKind TimerStop (timerSent (timerWanted expired before after)) ≡ stopsWanted expired before after
+stops-wanted : (expired before after : Bool) →
+    ofKind TimerStop (timerSent (timerWanted expired before after)) ≡ stopsWanted expired before after
 stops-wanted expired true true = refl
 stops-wanted true true false = refl
 stops-wanted false true false = refl
 stops-wanted expired false true = refl
 stops-wanted expired false false = refl
 
-all-told : (k : Kind) → eqb (kindNumber k) (kindNumber k) ≡ true → (n : ℕ) (got : ReceivedCause) (t : Told) → AllAre n (named (ofKind k (toldSent k n got t)))
+all-told : (k : Kind) → eqb (kindNumber k) (kindNumber k) ≡ true → (n : ℕ) (got : ReceivedCause) (t : Told) →
+    AllAre n (named (ofKind k (toldSent k n got t)))
 all-told k h n got Untold = tt
 all-told k h n got (Tells say code) = simp h (refl, tt)
 
-all-connects : (s : State) (n : ℕ) (got : ReceivedCause) (x : Closing) (rule : Rule) → closingNames x rule ≡ true → AllAre (reroutingOf s) (named (ofKind ConnectRequest (closingSent s n got x)))
+all-connects : (s : State) (n : ℕ) (got : ReceivedCause) (x : Closing) (rule : Rule) → closingNames x rule ≡ true →
+    AllAre (reroutingOf s) (named (ofKind ConnectRequest (closingSent s n got x)))
 all-connects s n got NoClosing rule p = tt
 all-connects s n got (SendsSetup slot) rule p = tt
 all-connects s n got (SendsConnect slot) rule p = (ap (value s n) (slot-same slot OldRerouting p), tt)
 all-connects s n got (Rejects say code) rule p = tt
 
-all-setups : (s : State) (n : ℕ) (got : ReceivedCause) (x : Closing) (rule : Rule) → closingNames x rule ≡ true → AllAre n (named (ofKind SetupRequest (closingSent s n got x)))
+all-setups : (s : State) (n : ℕ) (got : ReceivedCause) (x : Closing) (rule : Rule) → closingNames x rule ≡ true →
+    AllAre n (named (ofKind SetupRequest (closingSent s n got x)))
 all-setups s n got NoClosing rule p = tt
 all-setups s n got (SendsSetup slot) rule p = (ap (value s n) (slot-same slot NewNumber (left (sameSlot slot NewNumber) _ p)), tt)
 all-setups s n got (SendsConnect slot) rule p = tt
 all-setups s n got (Rejects say code) rule p = tt
 
 -- a switch, where there is one, names the slot that it names
-all-switches : (s : State) (n : ℕ) (x : Slot) (after : State) → (sameSlot x NoSlot ≡ false → isItsIncumbent after (value s n x) ≡ true) → AllIncumbent after (named (ofKind Switch (switchSent s n x)))
+all-switches : (s : State) (n : ℕ) (x : Slot) (after : State) → (sameSlot x NoSlot ≡ false → isItsIncumbent after (value s n x) ≡ true) →
+    AllIncumbent after (named (ofKind Switch (switchSent s n x)))
 all-switches s n NoSlot after h = tt
 all-switches s n OldIncumbent after h = (h refl, tt)
 all-switches s n OldRerouting after h = (h refl, tt)
@@ -187,15 +195,18 @@ switch-rises s n OldIncumbent l p = p
 switch-rises s n OldRerouting l p = p
 switch-rises s n NewNumber l p = p
 
-party-rises : (node : Node) (got : ReceivedCause) (t : Told) (l : List Signal) → rising 3 l ≡ true → rising 2 (toldSent (partyKind node) 0 got t ++ l) ≡ true
+party-rises : (node : Node) (got : ReceivedCause) (t : Told) (l : List Signal) → rising 3 l ≡ true →
+    rising 2 (toldSent (partyKind node) 0 got t ++ l) ≡ true
 party-rises node got Untold l p = lower 2 3 l (omega arith) p
 party-rises SourceNode got (Tells say code) l p = p
 
-retires-rises : (n : ℕ) (got : ReceivedCause) (t : Told) (l : List Signal) → rising 4 l ≡ true → rising 3 (toldSent IncumbentRelease n got t ++ l) ≡ true
+retires-rises : (n : ℕ) (got : ReceivedCause) (t : Told) (l : List Signal) → rising 4 l ≡ true →
+    rising 3 (toldSent IncumbentRelease n got t ++ l) ≡ true
 retires-rises n got Untold l p = lower 3 4 l (omega arith) p
 retires-rises n got (Tells say code) l p = p
 
-drops-rises : (n : ℕ) (got : ReceivedCause) (t : Told) (l : List Signal) → rising 5 l ≡ true → rising 4 (toldSent ReroutingRelease n got t ++ l) ≡ true
+drops-rises : (n : ℕ) (got : ReceivedCause) (t : Told) (l : List Signal) → rising 5 l ≡ true →
+    rising 4 (toldSent ReroutingRelease n got t ++ l) ≡ true
 drops-rises n got Untold l p = lower 4 5 l (omega arith) p
 drops-rises n got (Tells say code) l p = p
 
@@ -204,10 +215,6 @@ closing-rises s n got NoClosing = refl
 closing-rises s n got (SendsSetup slot) = refl
 closing-rises s n got (SendsConnect slot) = refl
 closing-rises s n got (Rejects say code) = refl
-
-or-true : (a : Bool) → a || true ≡ true
-or-true true = refl
-or-true false = refl
 
 in-order : (b : ℕ) (l : List Signal) → rising b l ≡ true → inOrder (places l) ≡ true
 in-order b [] p = refl
@@ -276,7 +283,8 @@ closing-honest got s n (SendsSetup slot) = (tt, tt)
 closing-honest got s n (SendsConnect slot) = (tt, tt)
 closing-honest got s n (Rejects say code) = (said-so got say, tt)
 
-parties-in : (node : Node) (s : State) (n : ℕ) (got : ReceivedCause) (rule : Rule) → ofKind (partyKind node) (sentBy node s n got rule) ≡ ofKind (partyKind node) (toldSent (partyKind node) 0 got (rule .party))
+parties-in : (node : Node) (s : State) (n : ℕ) (got : ReceivedCause) (rule : Rule) →
+    ofKind (partyKind node) (sentBy node s n got rule) ≡ ofKind (partyKind node) (toldSent (partyKind node) 0 got (rule .party))
 parties-in SourceNode s n got rule =
     simp (
       kind-append,
@@ -291,7 +299,8 @@ parties-in SourceNode s n got rule =
 party-kind : (node : Node) → eqb 0 (kindNumber (partyKind node)) ≡ false
 party-kind SourceNode = refl
 
-all-party : (node : Node) (got : ReceivedCause) (t : Told) → named (ofKind (partyKind node) (toldSent (partyKind node) 0 got t)) ≡ cond (isTold t) (0 ∷ []) []
+all-party : (node : Node) (got : ReceivedCause) (t : Told) →
+    named (ofKind (partyKind node) (toldSent (partyKind node) 0 got t)) ≡ cond (isTold t) (0 ∷ []) []
 all-party SourceNode got Untold = refl
 all-party SourceNode got (Tells say code) = refl
 
@@ -332,7 +341,8 @@ pad-length (a ∷ (b ∷ (c ∷ (d ∷ [])))) h = refl
 pad-length (a ∷ (b ∷ (c ∷ (d ∷ (e ∷ more))))) h = absurd (omega arith)
 
 -- how many setups a closing sends
-setups-sent : (s : State) (n : ℕ) (got : ReceivedCause) (x : Closing) → length (ofKind SetupRequest (closingSent s n got x)) ≡ once (sendsSetup x)
+setups-sent : (s : State) (n : ℕ) (got : ReceivedCause) (x : Closing) →
+    length (ofKind SetupRequest (closingSent s n got x)) ≡ once (sendsSetup x)
 setups-sent s n got NoClosing = refl
 setups-sent s n got (SendsSetup slot) = refl
 setups-sent s n got (SendsConnect slot) = refl
@@ -434,7 +444,8 @@ module _ (node : Node) (x : Standing) (e : Event) (rule : Rule) (fit : fits rule
       kind-placed TimerStart refl all (few node x e rule fit)
       ∙ (starts-in ∙ (ap (λ t. ofKind TimerStart (timerSent t)) (right-timer p) ∙ starts-wanted (isExpiry e) (isHard s) (isHard (made .state))))
 
-  pub stops : isTimed (caseOf x e) rule ≡ true → ofKind TimerStop (made .signals) ≡ stopsWanted (isExpiry e) (isHard s) (isHard (made .state))
+  pub stops : isTimed (caseOf x e) rule ≡ true →
+      ofKind TimerStop (made .signals) ≡ stopsWanted (isExpiry e) (isHard s) (isHard (made .state))
   stops p =
       kind-placed TimerStop refl all (few node x e rule fit)
       ∙ (stops-in ∙ (ap (λ t. ofKind TimerStop (timerSent t)) (right-timer p) ∙ stops-wanted (isExpiry e) (isHard s) (isHard (made .state))))
@@ -476,7 +487,9 @@ module _ (node : Node) (x : Standing) (e : Event) (rule : Rule) (fit : fits rule
       )
 
   -- the signals of a closing's kind are the closing's
-  closing-in : (k : Kind) → eqb 1 (kindNumber k) ≡ false → eqb 2 (kindNumber k) ≡ false → eqb 3 (kindNumber k) ≡ false → eqb 4 (kindNumber k) ≡ false → eqb 5 (kindNumber k) ≡ false → eqb 6 (kindNumber k) ≡ false → ofKind k all ≡ ofKind k (closingSent s n got (rule .closing))
+  closing-in : (k : Kind) → eqb 1 (kindNumber k) ≡ false → eqb 2 (kindNumber k) ≡ false → eqb 3 (kindNumber k) ≡ false →
+      eqb 4 (kindNumber k) ≡ false → eqb 5 (kindNumber k) ≡ false → eqb 6 (kindNumber k) ≡ false →
+      ofKind k all ≡ ofKind k (closingSent s n got (rule .closing))
   closing-in k a b c d f g =
       simp (
         kind-append,
@@ -493,7 +506,8 @@ module _ (node : Node) (x : Standing) (e : Event) (rule : Rule) (fit : fits rule
   pub connects-in : ofKind ConnectRequest (made .signals) ≡ ofKind ConnectRequest (closingSent s n got (rule .closing))
   connects-in = kind-placed ConnectRequest refl all (few node x e rule fit) ∙ closing-in ConnectRequest refl refl refl refl refl refl
 
-  switch-done : switchNames rule ≡ true → sameSlot (rule .switch) NoSlot ≡ false → isItsIncumbent (made .state) (value s n (rule .switch)) ≡ true
+  switch-done : switchNames rule ≡ true → sameSlot (rule .switch) NoSlot ≡ false →
+      isItsIncumbent (made .state) (value s n (rule .switch)) ≡ true
   switch-done p some =
       let q : sameSlot (rule .switch) (rule .incumbent) && holdsIncumbent (rule .phase) ≡ true = or-right (sameSlot (rule .switch) NoSlot) _ some p in
       rw (slot-same (rule .switch) (rule .incumbent) (left (sameSlot (rule .switch) (rule .incumbent)) _ q))
@@ -550,7 +564,8 @@ module _ (node : Node) (x : Standing) (e : Event) (rule : Rule) (fit : fits rule
       let tests : Each (stillness (caseOf x e) rule) = each (stillness (caseOf x e) rule) (or-right (isDone (rule .answer)) _ refused still) in
       none-of (isTold (rule .party)) (eqb-true (sends rule) 0 (tests .1 .1 .1 .1 .0))
     where
-      none-of : (b : Bool) → once (not (sameTimer (rule .timer) LeavesTimer)) + (once (not (sameSlot (rule .switch) NoSlot)) + (once b + (once (isTold (rule .retires)) + (once (isTold (rule .drops)) + once (isClosed (rule .closing)))))) ≡ 0 → b ≡ false
+      none-of : (b : Bool) →
+          once (not (sameTimer (rule .timer) LeavesTimer)) + (once (not (sameSlot (rule .switch) NoSlot)) + (once b + (once (isTold (rule .retires)) + (once (isTold (rule .drops)) + once (isClosed (rule .closing)))))) ≡ 0 → b ≡ false
       none-of true p = absurd (omega arith)
       none-of false p = refl
 
@@ -559,7 +574,8 @@ module _ (node : Node) (x : Standing) (e : Event) (rule : Rule) (fit : fits rule
       let tests : Each (stillness (caseOf x e) rule) = each (stillness (caseOf x e) rule) (or-right (isDone (rule .answer)) _ refused still) in
       ap isOver (phase-same (rule .phase) (phaseOf s) (tests .0))
 
-  told-so : isQuiet (caseOf x e) rule ≡ true → tellsParty (caseOf x e) rule ≡ true → isTold (rule .party) ≡ endsOtherwise (caseOf x e) (rule .phase)
+  told-so : isQuiet (caseOf x e) rule ≡ true → tellsParty (caseOf x e) rule ≡ true →
+      isTold (rule .party) ≡ endsOtherwise (caseOf x e) (rule .phase)
   told-so still p = by (isDone (rule .answer)) refl
     where
       both-over : (b c : Bool) → false ≡ (not b && (b && c))
@@ -573,7 +589,8 @@ module _ (node : Node) (x : Standing) (e : Event) (rule : Rule) (fit : fits rule
           ∙ (both-over (isOver (phaseOf s)) (not (isPartys (happeningOf s (x .remote) e)))
           ∙ ap (λ b. not (isOver (phaseOf s)) && (b && not (isPartys (happeningOf s (x .remote) e)))) (sym (same-over still refused)))
 
-  pub tells : isQuiet (caseOf x e) rule ≡ true → tellsParty (caseOf x e) rule ≡ true → named (ofKind (partyKind node) (made .signals)) ≡ partyWanted (not (isNull s)) (not (isNull (made .state))) e
+  pub tells : isQuiet (caseOf x e) rule ≡ true → tellsParty (caseOf x e) rule ≡ true →
+      named (ofKind (partyKind node) (made .signals)) ≡ partyWanted (not (isNull s)) (not (isNull (made .state))) e
   tells still p =
       ap named (kind-placed (partyKind node) (party-kind node) all (few node x e rule fit) ∙ parties-in node s n got rule)
       ∙ (all-party node got (rule .party)
@@ -603,7 +620,8 @@ module _ (node : Node) (x : Standing) (e : Event) (rule : Rule) (fit : fits rule
       by true q = refl
       by false q = q
 
-  pub given : givesWithSetup rule ≡ true → not (sendsSetup (rule .closing) && rule .stores) ≡ true → length (ofKind SetupRequest (made .signals)) + length (storedBy e made) ≡ length (givenBy x made)
+  pub given : givesWithSetup rule ≡ true → not (sendsSetup (rule .closing) && rule .stores) ≡ true →
+      length (ofKind SetupRequest (made .signals)) + length (storedBy e made) ≡ length (givenBy x made)
   given p q =
       rw (
         kind-placed SetupRequest refl all (few node x e rule fit),

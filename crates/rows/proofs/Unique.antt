@@ -1,7 +1,7 @@
 -- Two rules that keep the laws of every row and what the papers say elsewhere at one case are one. Assumes nothing.
-use Prim.Native.Nat.{_+_, ℕ}
+use Prim.Native.Nat.{_+_}
 use native.Mathlib.Omega.{arith}
-use mathlib.Core.Bool.{Bool, cond, false, not, true}
+use mathlib.Core.Bool.{Bool, cond, false, false≢true, not, true, true≢false}
 use mathlib.Core.List.{List, [], _++_, _∷_}
 use mathlib.Core.Path.{_∙_, _≡_, ap, refl, sym}
 use lib.Dec.{eqb}
@@ -24,12 +24,14 @@ use Rattle.rows.specs.States.{isHardPhase}
 -- what carries the same, and is told alike, is the same
 alike : (t u wanted : Told) → isTold t ≡ isTold u → carries t wanted ≡ true → carries u wanted ≡ true → t ≡ u
 alike Untold Untold wanted h p q = refl
-alike Untold (Tells say code) wanted h p q = absurd (let z : _≡_ {A = ℕ} 0 1 = cc in omega arith)
-alike (Tells say code) Untold wanted h p q = absurd (let z : _≡_ {A = ℕ} 0 1 = cc in omega arith)
+alike Untold (Tells say code) wanted h p q = absurd (false≢true h)
+alike (Tells say code) Untold wanted h p q = absurd (true≢false h)
 alike (Tells say code) (Tells other also) wanted h p q = told-same (Tells say code) wanted p ∙ sym (told-same (Tells other also) wanted q)
 
 -- a rule is its fields
-same-rule : (a b : Rule) → a .answer ≡ b .answer → a .phase ≡ b .phase → a .incumbent ≡ b .incumbent → a .rerouting ≡ b .rerouting → a .stores ≡ b .stores → a .timer ≡ b .timer → a .switch ≡ b .switch → a .party ≡ b .party → a .retires ≡ b .retires → a .drops ≡ b .drops → a .closing ≡ b .closing → a ≡ b
+same-rule : (a b : Rule) → a .answer ≡ b .answer → a .phase ≡ b .phase → a .incumbent ≡ b .incumbent → a .rerouting ≡ b .rerouting →
+    a .stores ≡ b .stores → a .timer ≡ b .timer → a .switch ≡ b .switch → a .party ≡ b .party → a .retires ≡ b .retires →
+    a .drops ≡ b .drops → a .closing ≡ b .closing → a ≡ b
 same-rule a b p1 p2 p3 p4 p5 p6 p7 p8 p9 p10 p11 =
     λ i. record { answer = p1 i; phase = p2 i; incumbent = p3 i; rerouting = p4 i; stores = p5 i; timer = p6 i; switch = p7 i; party = p8 i; retires = p9 i; drops = p10 i; closing = p11 i }
 
@@ -94,7 +96,9 @@ once-same false true p = absurd (omega arith)
 once-same false false p = refl
 
 -- two balances over the same holdings and reports node the same
-ended-same : (x : Slot) (held got given given' kept kept' ended ended' : List Slot) → given ≡ given' → kept ≡ kept' → eqb (tally x (held ++ given)) (tally x (kept ++ (got ++ ended))) ≡ true → eqb (tally x (held ++ given')) (tally x (kept' ++ (got ++ ended'))) ≡ true → tally x ended ≡ tally x ended'
+ended-same : (x : Slot) (held got given given' kept kept' ended ended' : List Slot) → given ≡ given' → kept ≡ kept' →
+    eqb (tally x (held ++ given)) (tally x (kept ++ (got ++ ended))) ≡ true →
+    eqb (tally x (held ++ given')) (tally x (kept' ++ (got ++ ended'))) ≡ true → tally x ended ≡ tally x ended'
 ended-same x held got given given' kept kept' ended ended' p q r t =
     omega (arith, ap (tally x) p, ap (tally x) q, eqb-true (tally x (held ++ given)) (tally x (kept ++ (got ++ ended))) r, eqb-true (tally x (held ++ given')) (tally x (kept' ++ (got ++ ended'))) t, tally-append x held given, tally-append x held given', tally-append x kept (got ++ ended), tally-append x got ended, tally-append x kept' (got ++ ended'), tally-append x got ended')
 
@@ -153,7 +157,8 @@ module _ (papers : Papers) (c : Case) (a b : Rule) (pa : Each (fixes papers c a)
     balance-b : Each (balances c b)
     balance-b = each (balances c b) (when-b _ (pb .1 .1 .1 .0))
 
-    ended : (x : Slot) → eqb (tally x (slotsOf (c .phase) OldIncumbent OldRerouting ++ givenSlots a)) (tally x (slotsOf (a .phase) (a .incumbent) (a .rerouting) ++ (reportedSlots (c .happening) ++ endedSlots a))) ≡ true → eqb (tally x (slotsOf (c .phase) OldIncumbent OldRerouting ++ givenSlots b)) (tally x (slotsOf (b .phase) (b .incumbent) (b .rerouting) ++ (reportedSlots (c .happening) ++ endedSlots b))) ≡ true → tally x (endedSlots a) ≡ tally x (endedSlots b)
+    ended : (x : Slot) →
+        eqb (tally x (slotsOf (c .phase) OldIncumbent OldRerouting ++ givenSlots a)) (tally x (slotsOf (a .phase) (a .incumbent) (a .rerouting) ++ (reportedSlots (c .happening) ++ endedSlots a))) ≡ true → eqb (tally x (slotsOf (c .phase) OldIncumbent OldRerouting ++ givenSlots b)) (tally x (slotsOf (b .phase) (b .incumbent) (b .rerouting) ++ (reportedSlots (c .happening) ++ endedSlots b))) ≡ true → tally x (endedSlots a) ≡ tally x (endedSlots b)
     ended x p q =
         ended-same x (slotsOf (c .phase) OldIncumbent OldRerouting) (reportedSlots (c .happening)) (givenSlots a) (givenSlots b)
         (slotsOf (a .phase) (a .incumbent) (a .rerouting))
@@ -194,5 +199,6 @@ module _ (papers : Papers) (c : Case) (a b : Rule) (pa : Each (fixes papers c a)
       by false d = one-refused d (rw answers at d)
 
 -- whatever the papers say: a rule that keeps the laws at a case is the one in a table that keeps them there
-pub only : (papers : Papers) (c : Case) (rule row : Rule) → conj (fixes papers c rule) ≡ true → conj (fixes papers c row) ≡ true → rule ≡ row
+pub only : (papers : Papers) (c : Case) (rule row : Rule) → conj (fixes papers c rule) ≡ true → conj (fixes papers c row) ≡ true →
+    rule ≡ row
 only papers c rule row p q = one papers c rule row (each (fixes papers c rule) p) (each (fixes papers c row) q)

@@ -1,10 +1,9 @@
 -- A rule that gives no number does the same whatever the next number is. So code that has no next number in hand meets the rule all the same.
 -- Assumes nothing.
 use Prim.Native.Nat.{_+_, ℕ}
-use native.Mathlib.Omega.{arith}
-use mathlib.Core.Bool.{Bool, _&&_, _||_, cond, false, true}
+use mathlib.Core.Bool.{Bool, _&&_, _||_, cond, false, false≢true, true, true≢false}
 use mathlib.Core.List.{_++_}
-use mathlib.Core.Path.{_≡_, ap, refl}
+use mathlib.Core.Path.{_∙_, _≡_, ap, refl, sym}
 use lib.Dec.{ltb}
 use Rattle.signal.specs.Numbers.{freshAfter}
 use Rattle.signal.specs.Signals.{places}
@@ -25,7 +24,7 @@ use Rattle.rows.specs.States.{AtSoftTriggered, Phase, built, holdsIncumb
 use Rattle.rows.specs.declared.State.{State}
 
 or-none : (a b : Bool) → a || b ≡ false → (a ≡ false) × (b ≡ false)
-or-none true b p = absurd (let z : _≡_ {A = ℕ} 0 1 = cc in omega arith)
+or-none true b p = absurd (true≢false p)
 or-none false b p = (refl, p)
 
 module _ (s : State) (n m : ℕ) where
@@ -33,9 +32,10 @@ module _ (s : State) (n m : ℕ) where
   value-either NoSlot p = refl
   value-either OldIncumbent p = refl
   value-either OldRerouting p = refl
-  value-either NewNumber p = absurd (let z : _≡_ {A = ℕ} 0 1 = cc in omega arith)
+  value-either NewNumber p = absurd (true≢false p)
 
-  state-either : (phase : Phase) (i r : Slot) → givesIn phase i r ≡ false → built phase (value s n i) (value s n r) ≡ built phase (value s m i) (value s m r)
+  state-either : (phase : Phase) (i r : Slot) → givesIn phase i r ≡ false →
+      built phase (value s n i) (value s n r) ≡ built phase (value s m i) (value s m r)
   state-either AtNull i r p = refl
   state-either AtIdle i r p = ap (λ x. built AtIdle x 0) (value-either i (or-none (isNew i) false p .0))
   state-either AtHardWaiting i r p = refl
@@ -49,12 +49,13 @@ module _ (s : State) (n m : ℕ) where
   switch-either NoSlot p = refl
   switch-either OldIncumbent p = refl
   switch-either OldRerouting p = refl
-  switch-either NewNumber p = absurd (let z : _≡_ {A = ℕ} 0 1 = cc in omega arith)
+  switch-either NewNumber p = absurd (true≢false p)
 
-  closing-either : (got : ReceivedCause) (x : Closing) (rule : Rule) → givesNew rule ≡ false → closingNames x rule ≡ true → closingSent s n got x ≡ closingSent s m got x
+  closing-either : (got : ReceivedCause) (x : Closing) (rule : Rule) → givesNew rule ≡ false → closingNames x rule ≡ true →
+      closingSent s n got x ≡ closingSent s m got x
   closing-either got NoClosing rule p q = refl
   closing-either got (SendsSetup slot) rule p q =
-      let r : givesNew rule ≡ true = right (sameSlot slot NewNumber) (givesNew rule) q in absurd (let z : _≡_ {A = ℕ} 0 1 = cc in omega arith)
+      absurd (false≢true (sym p ∙ right (sameSlot slot NewNumber) (givesNew rule) q))
   closing-either got (SendsConnect slot) rule p q = rw (slot-same slot OldRerouting q)
   closing-either got (Rejects say code) rule p q = refl
 
@@ -72,7 +73,8 @@ old-switch rule p g = by (sameSlot (rule .switch) NoSlot) refl
         rw (slot-same (rule .switch) (rule .incumbent) (left (sameSlot (rule .switch) (rule .incumbent)) _ t))
         (old-incumbent (rule .phase) (rule .incumbent) (rule .rerouting) (right (sameSlot (rule .switch) (rule .incumbent)) _ t) g)
 
-pub either : (node : Node) (s : State) (n m : ℕ) (got : ReceivedCause) (rule : Rule) → givesNew rule ≡ false → switchNames rule ≡ true → closingNames (rule .closing) rule ≡ true → effect node s n got rule ≡ effect node s m got rule
+pub either : (node : Node) (s : State) (n m : ℕ) (got : ReceivedCause) (rule : Rule) → givesNew rule ≡ false → switchNames rule ≡ true →
+    closingNames (rule .closing) rule ≡ true → effect node s n got rule ≡ effect node s m got rule
 either node s n m got rule g p q =
     λ k. record {
       answer = rule .answer;
@@ -96,12 +98,15 @@ room-is last = by (ltb last 65535)
     by false = refl
 
 -- the next number as the code has it, and as a lawful rule wants it
-pub fresh-either : (node : Node) (s : State) (last : ℕ) (got : ReceivedCause) (c : Case) (rule : Rule) → c .room ≡ hasRoom last → isLawful c rule ≡ true → effect node s (nextNumber (freshAfter last)) got rule ≡ effect node s (last + 1) got rule
+pub fresh-either : (node : Node) (s : State) (last : ℕ) (got : ReceivedCause) (c : Case) (rule : Rule) → c .room ≡ hasRoom last →
+    isLawful c rule ≡ true → effect node s (nextNumber (freshAfter last)) got rule ≡ effect node s (last + 1) got rule
 fresh-either node s last got c rule room p =
     let t : Each (laws c rule) = each (laws c rule) p in
     by (ltb last 65535) refl (givesNew rule) refl (t .1 .1 .1 .1 .0) (t .1 .1 .1 .1 .1 .0) (t .1 .1 .1 .1 .1 .1 .0)
   where
-    by : (b : Bool) → ltb last 65535 ≡ b → (g : Bool) → givesNew rule ≡ g → switchNames rule ≡ true → closingNames (rule .closing) rule ≡ true → hasRoomFor c rule ≡ true → effect node s (nextNumber (freshAfter last)) got rule ≡ effect node s (last + 1) got rule
+    by : (b : Bool) → ltb last 65535 ≡ b → (g : Bool) → givesNew rule ≡ g → switchNames rule ≡ true →
+        closingNames (rule .closing) rule ≡ true → hasRoomFor c rule ≡ true →
+        effect node s (nextNumber (freshAfter last)) got rule ≡ effect node s (last + 1) got rule
     by true q g h names closes fits = rw q refl
     by false q false h names closes fits = either node s (nextNumber (freshAfter last)) (last + 1) got rule h names closes
-    by false q true h names closes fits = absurd (let f : _≡_ {A = Bool} false true = simp (room, q, h) at fits in let z : _≡_ {A = ℕ} 0 1 = cc in omega arith)
+    by false q true h names closes fits = absurd (let f : _≡_ {A = Bool} false true = simp (room, q, h) at fits in false≢true f)

@@ -22,10 +22,11 @@ use Rattle.events.specs.declared.Event.{Event}
 use Rattle.events.specs.declared.Event.the-variants.{Connect, Expiry, FromDomain, FromParty, NoPath, PathFound, Ready, Setup, Trigger}
 use Rattle.rows.proofs.Every.{Each, each, left, right}
 use Rattle.rows.proofs.Same.{bool-same, code-same, not-so, saying-same}
-use Rattle.rows.proofs.Sent.{append-none, pad, placed, sent-length}
+use Rattle.rows.proofs.Sent.{append-none, cond-append, pad, placed, sent-length}
 use Rattle.rows.specs.Cases.{Case, NamesIncumbent, NamesOther, NamesRerouting, Standing, askingOf, caseOf, happeningOf, hasRoom}
 use Rattle.rows.specs.Cases.{isIncumbent, isRerouting, roleOf}
-use Rattle.rows.specs.Checks.{Demands, answerNumberWanted, asksNumber, code21Wanted, firstOf, holds, isItsIncumbent, isNone, namesNotHeld}
+use Rattle.rows.specs.Checks.{Demands, answerNumberWanted, asksNumber, code21Wanted, firstOf, holds, isItsIncumbent, isNone}
+use Rattle.rows.specs.Checks.{namesNotHeld}
 use Rattle.rows.specs.Checks.{rejectionWanted, rejections, storedWanted}
 use Rattle.rows.specs.Effects.{causeSaid, causesOf, closingSent, partyKind, said, switchSent, timerSent, toldSent}
 use Rattle.rows.specs.Laws.{Wants, answerIn, asksFor, bears21, firstAnswer, fits, holdsRole, isEmpty, isLawful, saysNumber, isWanted}
@@ -61,7 +62,8 @@ module _ (phase : Phase) where
   new-unheld true r = simp r
   new-unheld false r = refl
 
-  two-unheld : (b d : Bool) → holdsIncumbent phase ≡ true → holdsRerouting phase ≡ true → not (holdsRole phase (cond b NamesIncumbent (cond d NamesRerouting NamesOther))) ≡ not (b || (d || false))
+  two-unheld : (b d : Bool) → holdsIncumbent phase ≡ true → holdsRerouting phase ≡ true →
+      not (holdsRole phase (cond b NamesIncumbent (cond d NamesRerouting NamesOther))) ≡ not (b || (d || false))
   two-unheld true d i r = simp i
   two-unheld false true i r = simp r
   two-unheld false false i r = refl
@@ -122,7 +124,8 @@ empty-is : (l : List Saying) → isEmpty l ≡ true → l ≡ []
 empty-is [] p = refl
 empty-is (say ∷ more) p = absurd (false≢true p)
 
-turned-away : (s : State) (n : ℕ) (got : ReceivedCause) (l : List Saying) (x : Closing) → rejectsWith l x ≡ true → ofKind Rejection (closingSent s n got x) ≡ rejections (causesOf l)
+turned-away : (s : State) (n : ℕ) (got : ReceivedCause) (l : List Saying) (x : Closing) → rejectsWith l x ≡ true →
+    ofKind Rejection (closingSent s n got x) ≡ rejections (causesOf l)
 turned-away s n got [] NoClosing p = refl
 turned-away s n got [] (SendsSetup slot) p = refl
 turned-away s n got [] (SendsConnect slot) p = refl
@@ -150,10 +153,6 @@ one-signal k (a ∷ []) r p q = by (eqb (kindNumber (a .kind)) (kindNumber k)) q
 one-signal k (a ∷ (b ∷ more)) r p q = absurd (omega arith)
 
 -- ---- Cause code #21
-cond-append : {A : Type 0} (t : Bool) (x : A) (a b : List A) → cond t (x ∷ (a ++ b)) (a ++ b) ≡ cond t (x ∷ a) a ++ b
-cond-append true x a b = refl
-cond-append false x a b = refl
-
 with-append : (a b : List Signal) → withCode21 (a ++ b) ≡ withCode21 a ++ withCode21 b
 with-append [] b = refl
 with-append (s ∷ a) b = rw (with-append a b) (cond-append (isCallRejected (s .code)) s (withCode21 a) (withCode21 b))
@@ -176,7 +175,8 @@ pad-without (a ∷ (b ∷ [])) = refl
 pad-without (a ∷ (b ∷ (c ∷ []))) = refl
 pad-without (a ∷ (b ∷ (c ∷ (d ∷ more)))) = refl
 
-told-with : (k : Kind) (n : ℕ) (got : ReceivedCause) (wanted : Bool) (t : Told) → bears21 wanted t ≡ true → withCode21 (toldSent k n got t) ≡ cond wanted (releaseWith k n Absent CallRejected ∷ []) []
+told-with : (k : Kind) (n : ℕ) (got : ReceivedCause) (wanted : Bool) (t : Told) → bears21 wanted t ≡ true →
+    withCode21 (toldSent k n got t) ≡ cond wanted (releaseWith k n Absent CallRejected ∷ []) []
 told-with k n got true Untold p = absurd (false≢true p)
 told-with k n got false Untold p = refl
 told-with k n got true (Tells say Section66) p = absurd (false≢true p)
@@ -184,7 +184,8 @@ told-with k n got true (Tells say CallRejected) p = ap (λ y. releaseWith k n (s
 told-with k n got false (Tells say Section66) p = refl
 told-with k n got false (Tells say CallRejected) p = absurd (false≢true p)
 
-closing-without : (s : State) (n : ℕ) (got : ReceivedCause) (l : List Saying) (x : Closing) → rejectsWith l x ≡ true → withCode21 (closingSent s n got x) ≡ []
+closing-without : (s : State) (n : ℕ) (got : ReceivedCause) (l : List Saying) (x : Closing) → rejectsWith l x ≡ true →
+    withCode21 (closingSent s n got x) ≡ []
 closing-without s n got l NoClosing p = refl
 closing-without s n got l (SendsSetup slot) p = refl
 closing-without s n got l (SendsConnect slot) p = refl
@@ -226,7 +227,8 @@ module _ (w : Wants) (d : Demands) (agrees : Agrees w d) (x : Standing) (e : Eve
       ∙ (first-number (w .meaningless c) (namesUnheld (c .phase) (c .happening)) (asksFor w (c .phase) (c .happening) && not (c .room))
       ∙ λ i. firstOf (agrees .meaningless x e i) (names-unheld s (x .remote) e i) (asks e i && not (hasRoom (x .last))))
 
-  stores-is : (e : Event) (b : Bool) → b ≡ storesIn w (caseOf x e) (happeningOf s (x .remote) e) → cond b (numberBrought e ∷ []) [] ≡ storedWanted d x e
+  stores-is : (e : Event) (b : Bool) → b ≡ storesIn w (caseOf x e) (happeningOf s (x .remote) e) →
+      cond b (numberBrought e ∷ []) [] ≡ storedWanted d x e
   stores-is Trigger b p = ap (λ t. cond t (0 ∷ []) []) p
   stores-is PathFound b p = ap (λ t. cond t (0 ∷ []) []) p
   stores-is NoPath b p = ap (λ t. cond t (0 ∷ []) []) p
@@ -264,12 +266,14 @@ module _ (w : Wants) (d : Demands) (agrees : Agrees w d) (x : Standing) (e : Eve
   rejection-is Expiry = refl
 
   module _ (fit : fits rule ≡ true) where
-    pub rejected : rejectsWith (rejectedIn w c (c .happening)) (rule .closing) ≡ true → ofKind Rejection (made .signals) ≡ rejectionWanted d x e
+    pub rejected : rejectsWith (rejectedIn w c (c .happening)) (rule .closing) ≡ true →
+        ofKind Rejection (made .signals) ≡ rejectionWanted d x e
     rejected p =
         signals.rejects-in (d .node) x e rule fit
         ∙ (turned-away s n (receivedIn e) (rejectedIn w c (c .happening)) (rule .closing) p ∙ rejection-is e)
 
-    alone : (l : List Saying) → rejections (causesOf l) ≡ rejectionWanted d x e → leavesRejected l c rule ≡ true → ofKind Rejection (made .signals) ≡ rejectionWanted d x e → (r : Signal) → rejectionWanted d x e ≡ r ∷ [] → Left x made r
+    alone : (l : List Saying) → rejections (causesOf l) ≡ rejectionWanted d x e → leavesRejected l c rule ≡ true →
+        ofKind Rejection (made .signals) ≡ rejectionWanted d x e → (r : Signal) → rejectionWanted d x e ≡ r ∷ [] → Left x made r
     alone [] q p o r wanted = absurd (let z : _≡_ {A = ℕ} 0 1 = ap length (q ∙ wanted) in omega arith)
     alone (say ∷ more) q p o r wanted =
         let t : Each (leftAlone c rule) = each (leftAlone c rule) p in
@@ -285,7 +289,9 @@ module _ (w : Wants) (d : Demands) (agrees : Agrees w d) (x : Standing) (e : Eve
           signals = ap places (one-signal Rejection all r one′ own);
         }
 
-    pub code21 : rejectsWith (rejectedIn w c (c .happening)) (rule .closing) ≡ true → bears21 false (rule .party) ≡ true → bears21 (w .retired21 c) (rule .retires) ≡ true → bears21 (w .dropped21 c) (rule .drops) ≡ true → withCode21 (made .signals) ≡ code21Wanted d x e
+    pub code21 : rejectsWith (rejectedIn w c (c .happening)) (rule .closing) ≡ true → bears21 false (rule .party) ≡ true →
+        bears21 (w .retired21 c) (rule .retires) ≡ true → bears21 (w .dropped21 c) (rule .drops) ≡ true →
+        withCode21 (made .signals) ≡ code21Wanted d x e
     code21 p q r t =
         ap withCode21 (placed all (balance.few (d .node) x e rule fit))
         ∙ (simp (

@@ -12,9 +12,11 @@ use Rattle.signal.specs.Counting.{one, count}
 use Rattle.signal.proofs.Counting.{count-append, one-self, one-other}
 use Rattle.lent.specs.Keyed.{onRecord, replacedFor}
 use Rattle.runs.specs.Run.{End, Does, opens, meets, KeyedRequest, Reply, Table, Control, tableAfter, emptyTable, callByKey}
-use Rattle.runs.specs.Account.{Log, emptyLog, oneTo, Settled, AllSettled, givenBetween, endedBy, askedBy, sentIn, entered, noted, logged, Account, Opened, Lives, Met, LawfulControl}
+use Rattle.runs.specs.Account.{Log, emptyLog, oneTo, Settled, AllSettled, givenBetween, endedBy, askedBy, sentIn, entered, noted}
+use Rattle.runs.specs.Account.{logged, Account, Opened, Lives, Met, LawfulControl}
 use Rattle.runs.specs.Account as claim
-use Rattle.runs.proofs.Keyed.{has-key, is-none, none-on, same-on, same-of, new-of, Once, once-none, once-same, once-new, once-own, gone}
+use Rattle.runs.proofs.Keyed.{has-key, is-none, none-on, same-on, same-of, new-of, Once, once-none, once-same, once-new, once-own}
+use Rattle.runs.proofs.Keyed.{gone}
 
 -- ---- the numbers from 1 to n
 pub outside : (n x : ℕ) → (x ≡ 0) ⊎ (n < x) → count x (oneTo n) ≡ 0
@@ -78,7 +80,8 @@ module _ (E : End) (C : Control E) (L : LawfulControl E C) where
       by-test true e = absurd (named (sym (has-key (E .key) (E .empty) k ys e) ∙ nought))
       by-test false e = e
 
-  once : (c : E .Record) (live : Bool) (l : Log) → Keeps c live l → (x : ℕ) → 1 ≤ x → x ≤ length (l .given) → count x (l .ended) + count x (E .held c) ≡ 1
+  once : (c : E .Record) (live : Bool) (l : Log) → Keeps c live l → (x : ℕ) → 1 ≤ x → x ≤ length (l .given) →
+      count x (l .ended) + count x (E .held c) ≡ 1
   once c live l h x a b = sym (h .counted x) ∙ (ap (count x) (h .numbers) ∙ within (length (l .given)) x a b)
 
   either-way : (m n : ℕ) → m + n ≡ 1 → ((m ≡ 1) × (n ≡ 0)) ⊎ ((m ≡ 0) × (n ≡ 1))
@@ -107,7 +110,8 @@ module _ (E : End) (C : Control E) (L : LawfulControl E C) where
   none-asked : (x : ℕ) (r : Reply E) → r .signals ≡ E .silent → count x (E .requested (r .signals)) ≡ 0
   none-asked x r quiet = ap (λ s. count x (E .requested s)) quiet ∙ ap (count x) (L .nothing-requested)
 
-  refused-kept : (k : ℕ) (ys : Table E) (a : KeyedRequest E) (l : Log) → (C ys a .answer ≡ 0 → ⊥) → Kept k ys l → Kept k (C ys a .table) (sentIn E (C ys a) l)
+  refused-kept : (k : ℕ) (ys : Table E) (a : KeyedRequest E) (l : Log) → (C ys a .answer ≡ 0 → ⊥) → Kept k ys l →
+      Kept k (C ys a .table) (sentIn E (C ys a) l)
   refused-kept k ys a l refused h = subst (λ zs. Kept k zs (sentIn E (C ys a) l)) (sym (quiet .0)) (record { numbers = h .0 .numbers; recorded = h .0 .recorded; counted = counted′; asked = asked′; before = h .0 .before }, h .1)
     where
       quiet : (C ys a .table ≡ ys) × (C ys a .signals ≡ E .silent)
@@ -120,7 +124,8 @@ module _ (E : End) (C : Control E) (L : LawfulControl E C) where
       asked′ x a′ = omega (arith, h .0 .asked x a′, count-append x (l .requested) (askedBy E (C ys a)), none-asked x (C ys a) (quiet .1))
 
   -- ---- an opening
-  opening-own : (k : ℕ) (ys : Table E) (r : Reply E) (l : Log) (w : E .Wanted) → Opened E ys k r → Kept k ys l → Kept k (r .table) (entered E (opens w) true (of k ys) (of k (r .table)) r l)
+  opening-own : (k : ℕ) (ys : Table E) (r : Reply E) (l : Log) (w : E .Wanted) → Opened E ys k r → Kept k ys l →
+      Kept k (r .table) (entered E (opens w) true (of k ys) (of k (r .table)) r l)
   opening-own k ys r l w o h = (subst (λ c. Keeps c (on k (r .table)) (entered E (opens w) true (of k ys) c r l)) (sym now) begun, subst (Once (E .key) (E .empty) k) (sym (o .stored)) (once-new (E .key) (E .empty) k 0 (o .call) ys (o .new)))
     where
       now : of k (r .table) ≡ o .call
@@ -149,7 +154,8 @@ module _ (E : End) (C : Control E) (L : LawfulControl E C) where
   emptied-other k d named emptied s = named (sym s ∙ (ap (E .key) emptied ∙ L .unused))
 
   -- the call's record after it
-  now-is : (k : ℕ) (ys : Table E) (e : E .Event) (r : Reply E) → (k ≡ 0 → ⊥) → Once (E .key) (E .empty) k ys → (m : Met E ys k e r) → of k (r .table) ≡ m .call
+  now-is : (k : ℕ) (ys : Table E) (e : E .Event) (r : Reply E) → (k ≡ 0 → ⊥) → Once (E .key) (E .empty) k ys → (m : Met E ys k e r) →
+      of k (r .table) ≡ m .call
   now-is k ys e r named single m = ap (of k) (m .stored) ∙ by-life (m .lives)
     where
       by-life : Lives E k (of k ys) (m .call) → of k (replacedFor (E .key) k (m .call) ys) ≡ m .call
@@ -159,7 +165,8 @@ module _ (E : End) (C : Control E) (L : LawfulControl E C) where
           ∙ sym emptied
 
   -- whether the key is on record after it: not where the record was emptied
-  off-record : (k : ℕ) (ys : Table E) (e : E .Event) (r : Reply E) → (k ≡ 0 → ⊥) → Once (E .key) (E .empty) k ys → (m : Met E ys k e r) → m .call ≡ E .empty → on k (r .table) ≡ false
+  off-record : (k : ℕ) (ys : Table E) (e : E .Event) (r : Reply E) → (k ≡ 0 → ⊥) → Once (E .key) (E .empty) k ys → (m : Met E ys k e r) →
+      m .call ≡ E .empty → on k (r .table) ≡ false
   off-record k ys e r named single m emptied = ap (on k) (m .stored) ∙ gone (E .key) (E .empty) k (m .call) ys single (emptied-other k (m .call) named emptied)
 
   -- the numbers given, where none and where one is added
@@ -169,7 +176,8 @@ module _ (E : End) (C : Control E) (L : LawfulControl E C) where
   one-added : (c d : E .Record) (g : List ℕ) → E .last d ≡ suc (E .last c) → g ++ givenBetween E c d ≡ g ++ (suc (E .last c) ∷ [])
   one-added c d g h = rw (lt-ltb (E .last c) (E .last d) (omega arith), h)
 
-  event-own : (k : ℕ) (ys : Table E) (e : E .Event) (r : Reply E) (l : Log) → (k ≡ 0 → ⊥) → Met E ys k e r → Kept k ys l → Kept k (r .table) (entered E (meets e) true (of k ys) (of k (r .table)) r l)
+  event-own : (k : ℕ) (ys : Table E) (e : E .Event) (r : Reply E) (l : Log) → (k ≡ 0 → ⊥) → Met E ys k e r → Kept k ys l →
+      Kept k (r .table) (entered E (meets e) true (of k ys) (of k (r .table)) r l)
   event-own k ys e r l named m h = (
     subst (λ c. Keeps c (on k (r .table)) (entered E (meets e) true (of k ys) c r l)) (sym (now-is k ys e r named (h .1) m))
         record { numbers = numbers′ (m .lives); recorded = recorded′ (m .lives); counted = counted′; asked = asked′; before = h .0 .before },
@@ -211,7 +219,8 @@ module _ (E : End) (C : Control E) (L : LawfulControl E C) where
     pub of-same : of k zs ≡ of k ys
     pub single : Once (E .key) (E .empty) k ys → Once (E .key) (E .empty) k zs
 
-  replaced-same : (k j : ℕ) (d : E .Record) (ys zs : Table E) → zs ≡ replacedFor (E .key) j d ys → (j ≡ k → ⊥) → (E .key d ≡ k → ⊥) → Same k ys zs
+  replaced-same : (k j : ℕ) (d : E .Record) (ys zs : Table E) → zs ≡ replacedFor (E .key) j d ys → (j ≡ k → ⊥) → (E .key d ≡ k → ⊥) →
+      Same k ys zs
   replaced-same k j d ys zs stored other new =
       record {
         on-same = ap (on k) stored ∙ same-on (E .key) (E .empty) k j d ys other new;
@@ -240,7 +249,8 @@ module _ (E : End) (C : Control E) (L : LawfulControl E C) where
   own-done k ys (opens w) l named done h = opening-own k ys _ l w (L .opened ys k w done) h
   own-done k ys (meets e) l named done h = event-own k ys e _ l named (L .met ys k e done) h
 
-  own-refused : (does : Does (E .Wanted) (E .Event)) (before now : E .Record) (r : Reply E) (l : Log) → entered E does false before now r l ≡ sentIn E r l
+  own-refused : (does : Does (E .Wanted) (E .Event)) (before now : E .Record) (r : Reply E) (l : Log) →
+      entered E does false before now r l ≡ sentIn E r l
   own-refused (opens w) before now r l = refl
   own-refused (meets e) before now r l = refl
 
@@ -268,7 +278,8 @@ module _ (E : End) (C : Control E) (L : LawfulControl E C) where
       by-tests false true own done = kept-same k ys (r .table) l (other-same k j ys does named (eqb-false j k own) (eqb-true (r .answer) 0 done)) h
       by-tests false false own done = subst (λ zs. Kept k zs l) (sym (L .refused ys a (eqb-false (r .answer) 0 done) .0)) h
 
-  along : (k : ℕ) (ys : Table E) (requests : List (KeyedRequest E)) (l : Log) → (k ≡ 0 → ⊥) → Kept k ys l → Kept k (tableAfter E C ys requests) (logged E C k ys l requests)
+  along : (k : ℕ) (ys : Table E) (requests : List (KeyedRequest E)) (l : Log) → (k ≡ 0 → ⊥) → Kept k ys l →
+      Kept k (tableAfter E C ys requests) (logged E C k ys l requests)
   along k ys [] l named h = h
   along k ys (a ∷ more) l named h = along k (C ys a .table) more (noted E k ys a (C ys a) l) named (step k (a .key) ys (a .does) l named h)
 

@@ -102,7 +102,8 @@ module _ (E : End) (c : E .Record) (l : Log) (h : Account E c l) (x : ℕ) where
   counted : count x (l .given) ≡ count x (l .ended) + count x (E .held c)
   counted = by-number (λ n. n ≡ count x (l .ended) + count x (E .held c)) (λ o. let none = h .others x o in omega arith) (λ a b. once (h .accounted x (omega arith) b))
     where
-      once : ((count x (l .ended) ≡ 1) × (count x (E .held c) ≡ 0)) ⊎ ((count x (l .ended) ≡ 0) × (count x (E .held c) ≡ 1)) → 1 ≡ count x (l .ended) + count x (E .held c)
+      once : ((count x (l .ended) ≡ 1) × (count x (E .held c) ≡ 0)) ⊎ ((count x (l .ended) ≡ 0) × (count x (E .held c) ≡ 1)) →
+          1 ≡ count x (l .ended) + count x (E .held c)
       once (inl e) = omega arith
       once (inr e) = omega arith
 
@@ -121,16 +122,19 @@ module _ (E : End) (C : Control E) where
   itself-owned (a ∷ more) = ap (λ rs. a ∷ rs) (itself-owned more)
 
   module _ (P : Table E → KeyedRequest E → Reply E → Type 0) where
-    into-owned : (ys : Table E) (requests : List (KeyedRequest E)) (strands : List (Strand E)) → AtInsertions E C P (tableAfter E C ys requests) strands → AtInsertions E C P ys (owned requests strands)
+    into-owned : (ys : Table E) (requests : List (KeyedRequest E)) (strands : List (Strand E)) →
+        AtInsertions E C P (tableAfter E C ys requests) strands → AtInsertions E C P ys (owned requests strands)
     into-owned ys [] strands at = at
     into-owned ys (a ∷ more) strands at = into-owned (C ys a .table) more strands at
 
-    out-of-owned : (ys : Table E) (requests : List (KeyedRequest E)) (strands : List (Strand E)) → AtInsertions E C P ys (owned requests strands) → AtInsertions E C P (tableAfter E C ys requests) strands
+    out-of-owned : (ys : Table E) (requests : List (KeyedRequest E)) (strands : List (Strand E)) →
+        AtInsertions E C P ys (owned requests strands) → AtInsertions E C P (tableAfter E C ys requests) strands
     out-of-owned ys [] strands at = at
     out-of-owned ys (a ∷ more) strands at = out-of-owned (C ys a .table) more strands at
 
   -- the table and the log after one request more
-  after-more : (ys : Table E) (before : List (KeyedRequest E)) (a : KeyedRequest E) → tableAfter E C ys (before ++ (a ∷ [])) ≡ C (tableAfter E C ys before) a .table
+  after-more : (ys : Table E) (before : List (KeyedRequest E)) (a : KeyedRequest E) →
+      tableAfter E C ys (before ++ (a ∷ [])) ≡ C (tableAfter E C ys before) a .table
   after-more ys [] a = refl
   after-more ys (b ∷ more) a = after-more (C ys b .table) more a
 
@@ -186,7 +190,8 @@ module _ (E : End) (N : Numbering E) (C : Control E) (D : KeepsDemandThree E N C
           (subst (λ zs. Account E (callByKey E k zs) (logged E C k (emptyTable E n) emptyLog (before ++ (a ∷ [])))) (after-more E C (emptyTable E n) before a)
           (account-at n (before ++ (a ∷ [])) k named))
 
-      balances : (x : ℕ) → count x (E .held (callByKey E k ys)) + count x (givenBetween E (callByKey E k ys) now) ≡ count x (E .held now) + count x (endedBy E e r)
+      balances : (x : ℕ) →
+          count x (E .held (callByKey E k ys)) + count x (givenBetween E (callByKey E k ys) now) ≡ count x (E .held now) + count x (endedBy E e r)
       balances x =
           omega (
             arith,
@@ -226,7 +231,8 @@ module _ (E : End) (N : Numbering E) (C : Control E) (D : KeepsDemandThree E N C
   one-kind : claim.OneKindIsHarmless E N C
   one-kind Kind of n strands at = D n strands (each (emptyTable E n) strands at) .harmless
     where
-      each : (ys : Table E) (strands : List (Strand E)) → AtInsertions E C (λ zs a r. Kind zs a) ys strands → AtInsertions E C (λ zs a r. LateOrUnsupported E N zs a) ys strands
+      each : (ys : Table E) (strands : List (Strand E)) → AtInsertions E C (λ zs a r. Kind zs a) ys strands →
+          AtInsertions E C (λ zs a r. LateOrUnsupported E N zs a) ys strands
       each ys [] at = tt
       each ys (own a ∷ more) at = each (C ys a .table) more at
       each ys (inserted a ∷ more) at = (of ys a (at .0), each (C ys a .table) more (at .1))

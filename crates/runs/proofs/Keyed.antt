@@ -46,7 +46,8 @@ module _ {X : Type 0} (key : X → ℕ) (none : X) where
   same-on k j d [] other new = refl
   same-on k j d (c ∷ cs) other new = by-test (eqb (key c) j) refl (same-on k j d cs other new)
     where
-      by-test : (b : Bool) → eqb (key c) j ≡ b → on k (put j d cs) ≡ on k cs → on k (cond b (d ∷ cs) (c ∷ put j d cs)) ≡ (eqb (key c) k || on k cs)
+      by-test : (b : Bool) → eqb (key c) j ≡ b → on k (put j d cs) ≡ on k cs →
+          on k (cond b (d ∷ cs) (c ∷ put j d cs)) ≡ (eqb (key c) k || on k cs)
       by-test true e rest = rw (ne-eqb (key d) k new, ne-eqb (key c) k (λ s. other (sym (eqb-true (key c) j e) ∙ s)))
       by-test false e rest = ap (λ t. eqb (key c) k || t) rest
 
@@ -54,7 +55,8 @@ module _ {X : Type 0} (key : X → ℕ) (none : X) where
   same-of k j d [] other new = refl
   same-of k j d (c ∷ cs) other new = by-test (eqb (key c) j) refl (same-of k j d cs other new)
     where
-      by-test : (b : Bool) → eqb (key c) j ≡ b → of k (put j d cs) ≡ of k cs → of k (cond b (d ∷ cs) (c ∷ put j d cs)) ≡ cond (eqb (key c) k) c (of k cs)
+      by-test : (b : Bool) → eqb (key c) j ≡ b → of k (put j d cs) ≡ of k cs →
+          of k (cond b (d ∷ cs) (c ∷ put j d cs)) ≡ cond (eqb (key c) k) c (of k cs)
       by-test true e rest = rw (ne-eqb (key d) k new, ne-eqb (key c) k (λ s. other (sym (eqb-true (key c) j e) ∙ s)))
       by-test false e rest = ap (λ t. cond (eqb (key c) k) c t) rest
 
@@ -63,7 +65,8 @@ module _ {X : Type 0} (key : X → ℕ) (none : X) where
   new-of k j d [] h own free = absurd (false≢true h)
   new-of k j d (c ∷ cs) h own free = by-test (eqb (key c) j) refl h free (new-of k j d cs)
     where
-      past : (b : Bool) → eqb (key c) j ≡ false → eqb (key c) k ≡ b → (j ≡ k) ⊎ ((b || on k cs) ≡ false) → (b ≡ false) × ((j ≡ k) ⊎ (on k cs ≡ false))
+      past : (b : Bool) → eqb (key c) j ≡ false → eqb (key c) k ≡ b → (j ≡ k) ⊎ ((b || on k cs) ≡ false) →
+          (b ≡ false) × ((j ≡ k) ⊎ (on k cs ≡ false))
       past true e s (inl same) = absurd (eqb-false (key c) j e (eqb-true (key c) k s ∙ sym same))
       past true e s (inr none′) = absurd (true≢false none′)
       past false e s (inl same) = (refl, inl same)
@@ -92,7 +95,8 @@ module _ {X : Type 0} (key : X → ℕ) (none : X) where
   off-put k j d [] new h = refl
   off-put k j d (c ∷ cs) new h = by-tests (eqb (key c) j) (eqb (key c) k) refl h (off-put k j d cs new)
     where
-      by-tests : (b own : Bool) → eqb (key c) k ≡ own → (own || on k cs) ≡ false → (on k cs ≡ false → on k (put j d cs) ≡ false) → on k (cond b (d ∷ cs) (c ∷ put j d cs)) ≡ false
+      by-tests : (b own : Bool) → eqb (key c) k ≡ own → (own || on k cs) ≡ false → (on k cs ≡ false → on k (put j d cs) ≡ false) →
+          on k (cond b (d ∷ cs) (c ∷ put j d cs)) ≡ false
       by-tests b true o t rest = absurd (true≢false t)
       by-tests true false o t rest = rw (ne-eqb (key d) k new, t)
       by-tests false false o t rest = rw (o, rest t)
@@ -110,7 +114,8 @@ module _ {X : Type 0} (key : X → ℕ) (none : X) where
   once-new k j d [] h = tt
   once-new k j d (c ∷ cs) h = by-tests (eqb (key c) j) (eqb (key c) k) refl h (once-new k j d cs)
     where
-      by-tests : (b own : Bool) → eqb (key c) k ≡ own → (own || on k cs) ≡ false → (on k cs ≡ false → Once k (put j d cs)) → Once k (cond b (d ∷ cs) (c ∷ put j d cs))
+      by-tests : (b own : Bool) → eqb (key c) k ≡ own → (own || on k cs) ≡ false → (on k cs ≡ false → Once k (put j d cs)) →
+          Once k (cond b (d ∷ cs) (c ∷ put j d cs))
       by-tests b true o t rest = absurd (true≢false t)
       by-tests true false o t rest = (λ _. t, once-none k cs t)
       by-tests false false o t rest = (λ s. absurd (eqb-false (key c) k o s), rest t)

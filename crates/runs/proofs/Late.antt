@@ -9,7 +9,8 @@ use Rattle.runs.proofs.Woven.{inert-insertions}
 
 module _ (E : End) (C : Control E) (Kind : Table E → Type 0) (keeps : (ys : Table E) (a : KeyedRequest E) → Kind ys → Kind (C ys a .table)) where
   -- what holds of an insertion over every table of a kind holds of all of them, since every table of the run is of that kind
-  at-all : (P Q : Table E → KeyedRequest E → Reply E → Type 0) → ((ys : Table E) (a : KeyedRequest E) → Kind ys → P ys a (C ys a) → Q ys a (C ys a)) →
+  at-all : (P Q : Table E → KeyedRequest E → Reply E → Type 0) →
+      ((ys : Table E) (a : KeyedRequest E) → Kind ys → P ys a (C ys a) → Q ys a (C ys a)) →
       (ys : Table E) (strands : List (Strand E)) → Kind ys → AtInsertions E C P ys strands → AtInsertions E C Q ys strands
   at-all P Q f ys [] kind at = tt
   at-all P Q f ys (own a ∷ more) kind at = at-all P Q f (C ys a .table) more (keeps ys a kind) at

@@ -14,41 +14,25 @@ use Rattle.signal.specs.declared.Soft.{Soft}
 use Rattle.signal.specs.declared.Switchover.{Switchover}
 use Rattle.events.specs.declared.Event.{Event}
 use Rattle.events.specs.declared.Event.the-variants.{Connect, Expiry, FromDomain, FromParty, NoPath, PathFound, Ready, Setup, Trigger}
+use Rattle.rows.proofs.Claims.{phase-exactly}
+use Rattle.rows.proofs.Signals.{hard-is}
 use Rattle.rows.proofs.Wanted.{is-first, its-incumbent, names-unheld}
 use Rattle.rows.specs.Cases.{AsksClearing, AsksImmediate, AsksOther, askingOf, asksClearing, cameNone, classOf, happeningOf, isIncumbent}
 use Rattle.rows.specs.Cases.{isRerouting}
 use Rattle.rows.specs.Effects.{causesOf}
 use Rattle.rows.specs.Meaning.{Agrees}
 use Rattle.rows.specs.Rules.{Says5, Says6, Says8}
-use Rattle.rows.specs.States.{isHard, isHardPhase, phaseNumber, phaseOf, stateNumber}
+use Rattle.rows.specs.States.{phaseNumber, phaseOf, stateNumber}
 use Rattle.rows.specs.declared.Class.the-variants.{CameComplete, CameOther, CameOutside}
 use Rattle.rows.specs.declared.State.{State}
-use Rattle.rows.specs.declared.State.the-variants.{Awaiting, HardUnderway, HardWaiting, Idle, Null, SoftInitiated, SoftProceeding}
-use Rattle.rows.specs.declared.State.the-variants.{SoftTriggered}
 use Rattle.source_rows.specs.Demands.{isBusy, hasNoCause, meaningless, meaninglessIn, rejectedFor, setupRejection, sourceDemands}
 use Rattle.source_rows.specs.Demands.{sourceWants, turnsAway, turnsAwayIn}
 
 number-is : (s : State) → phaseNumber (phaseOf s) ≡ stateNumber s
-number-is Null = refl
-number-is (Idle i) = refl
-number-is HardWaiting = refl
-number-is (HardUnderway r) = refl
-number-is (SoftTriggered i) = refl
-number-is (SoftProceeding i r) = refl
-number-is (SoftInitiated i r) = refl
-number-is (Awaiting i r) = refl
+number-is = phase-exactly .read
 
-hard-is : (s : State) → isHardPhase (phaseOf s) ≡ isHard s
-hard-is Null = refl
-hard-is (Idle i) = refl
-hard-is HardWaiting = refl
-hard-is (HardUnderway r) = refl
-hard-is (SoftTriggered i) = refl
-hard-is (SoftProceeding i r) = refl
-hard-is (SoftInitiated i r) = refl
-hard-is (Awaiting i r) = refl
-
-meaningless-is : (soft : Soft) (s : State) (remote : ℕ) (e : Event) → meaninglessIn (phaseOf s) soft (happeningOf s remote e) ≡ meaningless soft s e
+meaningless-is : (soft : Soft) (s : State) (remote : ℕ) (e : Event) →
+    meaninglessIn (phaseOf s) soft (happeningOf s remote e) ≡ meaningless soft s e
 meaningless-is soft s remote Trigger = ap (λ n. eqb n 0 || not (hasSoft soft)) (number-is s)
 meaningless-is soft s remote PathFound = ap (λ (n : ℕ). not (eqb n 2 || eqb n 4)) (number-is s)
 meaningless-is soft s remote NoPath = ap (λ (n : ℕ). not (eqb n 2 || eqb n 4)) (number-is s)
@@ -62,7 +46,8 @@ meaningless-is soft s remote Expiry = ap not (hard-is s)
 clearing-is : (code : Switchover) → asksClearing (askingOf code) ≡ isClearing code
 clearing-is code = by (eqb (code .code) 0) (eqb (code .code) 1) refl refl
   where
-    by : (a b : Bool) → eqb (code .code) 0 ≡ a → eqb (code .code) 1 ≡ b → asksClearing (cond a AsksImmediate (cond b AsksClearing AsksOther)) ≡ b
+    by : (a b : Bool) → eqb (code .code) 0 ≡ a → eqb (code .code) 1 ≡ b →
+        asksClearing (cond a AsksImmediate (cond b AsksClearing AsksOther)) ≡ b
     by true true p q =
         let z : code .code ≡ 0 = eqb-true (code .code) 0 p in
         let u : code .code ≡ 1 = eqb-true (code .code) 1 q in
@@ -71,7 +56,8 @@ clearing-is code = by (eqb (code .code) 0) (eqb (code .code) 1) refl refl
     by false true p q = refl
     by false false p q = refl
 
-rejected-is : (remote : ℕ) (s : State) (code : Switchover) (number : ℕ) → causesOf (rejectedFor (phaseOf s) (askingOf code) (isLate number remote)) ≡ setupRejection remote s code number
+rejected-is : (remote : ℕ) (s : State) (code : Switchover) (number : ℕ) →
+    causesOf (rejectedFor (phaseOf s) (askingOf code) (isLate number remote)) ≡ setupRejection remote s code number
 rejected-is remote s code number =
     (λ i.
     causesOf
@@ -79,7 +65,8 @@ rejected-is remote s code number =
     (cond (isLate number remote) (Says5 ∷ []) (cond ((eqb (number-is s i) 2 || eqb (number-is s i) 4) || (eqb (number-is s i) 3 || eqb (number-is s i) 5)) (Says6 ∷ []) []))))
     ∙ by (isClearing code) (isLate number remote) (isBusy s)
   where
-    by : (a b c : Bool) → causesOf (cond (not a) (Says8 ∷ []) (cond b (Says5 ∷ []) (cond c (Says6 ∷ []) []))) ≡ cond (not a) (unsupported ∷ []) (cond b (oldNumber ∷ []) (cond c (inProgress ∷ []) []))
+    by : (a b c : Bool) →
+        causesOf (cond (not a) (Says8 ∷ []) (cond b (Says5 ∷ []) (cond c (Says6 ∷ []) []))) ≡ cond (not a) (unsupported ∷ []) (cond b (oldNumber ∷ []) (cond c (inProgress ∷ []) []))
     by true true c = refl
     by true false true = refl
     by true false false = refl

@@ -38,7 +38,8 @@ use Rattle.source_rows.specs.Rows.{atSource, passing, rejectedOld, rejec
 use Rattle.source_rows.specs.Rows.{sourceEffect, sourceRow}
 
 -- a refusal leaves the state
-pub refused-at : (a : Answer) (s : State) (next : Fresh) (cause : ReceivedCause) → atSource s next cause (refuses a (phaseOf s)) ≡ refusedIn a s
+pub refused-at : (a : Answer) (s : State) (next : Fresh) (cause : ReceivedCause) →
+    atSource s next cause (refuses a (phaseOf s)) ≡ refusedIn a s
 refused-at a Null next cause = refl
 refused-at a (Idle i) next cause = refl
 refused-at a HardWaiting next cause = refl
@@ -49,7 +50,8 @@ refused-at a (SoftInitiated i r) next cause = refl
 refused-at a (Awaiting i r) next cause = refl
 
 -- a rejection leaves the state
-pub rejected-at : (say : Saying) (s : State) (next : Fresh) → atSource s next NoCause (rejects say (phaseOf s)) ≡ doneIn s (releaseWith Rejection 0 (said NoCause say) Section66) none none
+pub rejected-at : (say : Saying) (s : State) (next : Fresh) →
+    atSource s next NoCause (rejects say (phaseOf s)) ≡ doneIn s (releaseWith Rejection 0 (said NoCause say) Section66) none none
 rejected-at say Null next = refl
 rejected-at say (Idle i) next = refl
 rejected-at say HardWaiting next = refl
@@ -60,10 +62,12 @@ rejected-at say (SoftInitiated i r) next = refl
 rejected-at say (Awaiting i r) next = refl
 
 -- rows 1 and 2 of a setup, by its code
-pub asked-is : (code : Switchover) (late : Bool) (phase : Phase) (room : Bool) → setupAsked (askingOf code) late phase room ≡ cond (isClearing code) (cond late (rejectedOld phase) (setupIn phase room)) (rejectedUnsupported phase)
+pub asked-is : (code : Switchover) (late : Bool) (phase : Phase) (room : Bool) →
+    setupAsked (askingOf code) late phase room ≡ cond (isClearing code) (cond late (rejectedOld phase) (setupIn phase room)) (rejectedUnsupported phase)
 asked-is code late phase room = by (eqb (code .code) 0) (eqb (code .code) 1) refl refl
   where
-    by : (a b : Bool) → eqb (code .code) 0 ≡ a → eqb (code .code) 1 ≡ b → setupAsked (cond a AsksImmediate (cond b AsksClearing AsksOther)) late phase room ≡ cond b (cond late (rejectedOld phase) (setupIn phase room)) (rejectedUnsupported phase)
+    by : (a b : Bool) → eqb (code .code) 0 ≡ a → eqb (code .code) 1 ≡ b →
+        setupAsked (cond a AsksImmediate (cond b AsksClearing AsksOther)) late phase room ≡ cond b (cond late (rejectedOld phase) (setupIn phase room)) (rejectedUnsupported phase)
     by true true p q =
         let z : code .code ≡ 0 = eqb-true (code .code) 0 p in
         let u : code .code ≡ 1 = eqb-true (code .code) 1 q in

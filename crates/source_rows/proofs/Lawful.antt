@@ -142,7 +142,8 @@ rerouting-built AtSoftProceeding i r h = refl
 rerouting-built AtSoftInitiated i r h = refl
 rerouting-built AtAwaiting i r h = refl
 
-pub connected : (x : Standing) (e : Event) → AllAre (reroutingOf (sourceEffect x e .state)) (named (ofKind ConnectRequest (sourceEffect x e .signals)))
+pub connected : (x : Standing) (e : Event) →
+    AllAre (reroutingOf (sourceEffect x e .state)) (named (ofKind ConnectRequest (sourceEffect x e .signals)))
 connected x e = by (sendsConnect (row .closing)) refl
   where
     row : Rule
@@ -160,7 +161,8 @@ connected x e = by (sendsConnect (row .closing)) refl
     none-sent (SendsConnect slot) p = absurd (true≢false p)
     none-sent (Rejects say code) p = refl
 
-    by : (b : Bool) → sendsConnect (row .closing) ≡ b → AllAre (reroutingOf (sourceEffect x e .state)) (named (ofKind ConnectRequest (sourceEffect x e .signals)))
+    by : (b : Bool) → sendsConnect (row .closing) ≡ b →
+        AllAre (reroutingOf (sourceEffect x e .state)) (named (ofKind ConnectRequest (sourceEffect x e .signals)))
     by true p =
         let q : holdsRerouting (row .phase) && sameSlot (row .rerouting) OldRerouting ≡ true = or-right (not (sendsConnect (row .closing))) _ (simp p) own in
         let same : reroutingOf (sourceEffect x e .state) ≡ reroutingOf (x .state) =

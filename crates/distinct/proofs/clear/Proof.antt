@@ -1,11 +1,10 @@
 -- `distinct::clear` meets its contract. Assumes nothing.
-use Prim.Native.Nat.{_≤_, _<_, _-_, _+_}
-use mathlib.Core.Path.{_≡_, refl, sym, _∙_}
+use Prim.Native.Nat.{_-_, _+_}
+use mathlib.Core.Path.{_≡_, refl}
 use mathlib.Core.Bool.{false}
 use Rattle.distinct.proofs.Laws.{no-both}
 use native.Mathlib.Omega.{arith}
 use borrow.Author.Needs.{needs}
-use lib.ListN.{length, getD}
 use Rattle.distinct.specs.Chain.{Walk}
 use Rattle.distinct.proofs.Steps.{ended, onward}
 use Rattle.distinct.proofs.clear.Statement.{statement}

@@ -7,13 +7,13 @@ returns : tie.Need-returns
 returns c = simp (c .done .ensures, c .before .before .before .class-of .ensures, c .before .before .before .before .naming .ensures, c .before .enum-told .given .1)
 
 returns-2 : tie.Need-returns-2
-returns-2 c = simp (c .told-both .ensures, c .before .before .before .class-of .ensures, c .before .before .before .before .naming .ensures, c .before .enum-told2 .given .1)
+returns-2 c = simp (c .told-both .ensures, c .before .before .before .class-of .ensures, c .before .enum-told2 .given .1)
 
 returns-3 : tie.Need-returns-3
 returns-3 c = simp (c .done2 .ensures, c .before .before .before .class-of .ensures, c .before .before .before .before .naming .ensures, c .before .enum-told3 .given .1)
 
 returns-4 : tie.Need-returns-4
-returns-4 c = simp (c .told-both2 .ensures, c .before .before .before .class-of .ensures, c .before .before .before .before .naming .ensures, c .before .enum-told4 .given .1)
+returns-4 c = simp (c .told-both2 .ensures, c .before .before .before .class-of .ensures, c .before .enum-told4 .given .1)
 
 pub awaiting-lost-spec : {M : Type 1} → statement M
 awaiting-lost-spec =
