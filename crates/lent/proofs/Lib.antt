@@ -1,5 +1,7 @@
 pub mod Sizes
 pub mod Record
+pub mod Locals
+pub mod Ask
 pub mod Search
 pub mod Put
 pub mod Find
@@ -7,7 +9,6 @@ pub mod Lend
 pub mod Handle
 pub mod ByValue
 pub mod HandleArray
-pub mod HandleFirst
 pub mod Fold
 pub mod Survey
 pub mod Keys

@@ -9,6 +9,7 @@ use denote.Triple.Table.{entered, cited}
 use Rattle.lent.proofs.Record.{Plain, struct}
 use Rattle.lent.proofs.ByValue.{Both, av-field, field-is}
 use Rattle.lent.proofs.HandleArray as walked
+use Rattle.lent.proofs.HandleArray.{all-of-it}
 use Rattle.call.specs.Events.{sourceHalf}
 use Rattle.source_table.specs.Table.{ranOf, tableOf}
 use Rattle.source_table.proofs.Shape.{row, act, done}
@@ -36,7 +37,9 @@ both = record {
 }
 
 -- the code has the walk's shape: a mismatch is told here, in a line
-code-is : code.function ≡ walked.code row act done whole 64 tt (lit< tt, lit< tt) both (λ ys k e. (ranOf sourceHalf) ys k e .done) (tableOf sourceHalf) handle.name
+code-is : code.function
+    ≡ walked.code row act done whole 64 tt (lit< tt, lit< tt) both (λ ys k e. ranOf sourceHalf ys k e .done) (tableOf sourceHalf)
+    handle.name all-of-it
 code-is = refl
 
 pub handle64-spec : {M : Type 1} → stated.statement M
@@ -44,5 +47,6 @@ unfolding code.routine tablesOf
 handle64-spec 𝓤 H 𝓜 𝓖 𝓡 =
     entered 𝓤 H (tripleOf 𝓤 H (𝓖 .A) handle64.signature (handle64.spec 𝓤 H (𝓖 .A) (𝓜 .mem) (𝓡 .run)))
     (tables 𝓤 H 𝓜 𝓡 code.env .C) (tables 𝓤 H 𝓜 𝓡 code.env .Λ) #source_table·handle64 code.function (code.unfolded 𝓤 H 𝓜 𝓡)
-    (walked.meets row act done whole 64 tt (lit< tt, lit< tt) both (λ ys k e. (ranOf sourceHalf) ys k e .done) (tableOf sourceHalf) handle.name 𝓤 H (𝓖 .A) (givenOf 𝓤 H 𝓜 𝓖) (tablesOf 𝓤 H 𝓜 (tables 𝓤 H 𝓜 𝓡 code.env))
-    (cited 𝓤 H _ 𝓜 𝓡 code.env handle.name handle.routine code.calls-source-table·handle (handle-thm.met 𝓤 H 𝓜 𝓖 𝓡)))
+    (walked.meets row act done whole 64 tt (lit< tt, lit< tt) both (λ ys k e. ranOf sourceHalf ys k e .done) (tableOf sourceHalf)
+    handle.name 𝓤 H (𝓖 .A) (givenOf 𝓤 H 𝓜 𝓖) (tablesOf 𝓤 H 𝓜 (tables 𝓤 H 𝓜 𝓡 code.env))
+    (cited 𝓤 H _ 𝓜 𝓡 code.env handle.name handle.routine code.calls-source-table·handle (handle-thm.met 𝓤 H 𝓜 𝓖 𝓡)) all-of-it)
