@@ -190,14 +190,13 @@ module _ (S : Row) (E D Z : Plain) (count : ℕ) (fits : T (ltb count (2 ^ 64)))
   -- ---- the contract of what it calls
   abbrev hended : Ended
   hended = record {
-    signature =
-        record {
-          lifetimes = 1;
-          outlives = [];
-          params = SliceRefMutOf (0 ∷ []) tt (plain (λ _. R)) (λ _. tt) ∷ plain (λ _. u32)
-              ∷ plain (λ _. typeOf E) ∷ [];
-          result = plain (λ _. typeOf D);
-        };
+    signature = record {
+      lifetimes = 1;
+      outlives = [];
+      params = SliceRefMutOf (0 ∷ []) tt (plain (λ _. R)) (λ _. tt) ∷ plain (λ _. u32)
+          ∷ plain (λ _. typeOf E) ∷ [];
+      result = plain (λ _. typeOf D);
+    };
     kept = (yes, (yes, (yes, tt)));
   }
 

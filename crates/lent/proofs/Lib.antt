@@ -9,6 +9,7 @@ pub mod Lend
 pub mod Handle
 pub mod ByValue
 pub mod HandleArray
+pub mod Reading
 pub mod Fold
 pub mod Survey
 pub mod Keys

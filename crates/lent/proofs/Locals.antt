@@ -1,7 +1,9 @@
 -- A function's locals all at once, and a place whose local is known by an equation: what every walk begins and ends with.
 --     laid         the locals in the context, the last on top, each a cell that holds a value or room for one
+--     deaths       that they may be freed, alone
 --     enters       they are allocated.        leaves       they are freed, whatever they hold, past what stands on top of them
---     at           a place in the local of which the equation says where it stands, so that a law may leave the numbers of the locals open
+--     at           a place in the local of which the equation says where it stands, so that a law may leave the numbers of the locals
+--     open
 --     Standing     locals that stand one behind the other, from a number on
 -- Assumes `Given`.
 use mathlib.Core.Path.{_≡_, sym, subst}
@@ -30,6 +32,11 @@ module _ {M : Type 1} (𝓤 : URA M) (H : Heap 𝓤) where
   laid [] us Γ = Γ
   laid (e ∷ E) [] Γ = laid E [] (‵ (froom (e .0) (e .1) 0) ∷ ‵ (fdies (e .0) (e .1)) ∷ Γ)
   laid (e ∷ E) (u ∷ us) Γ = laid E us (cell 𝓤 (e .0) (e .1) u ∷ ‵ (fdies (e .0) (e .1)) ∷ Γ)
+
+  -- that they may be freed, in the same order
+  abbrev pub deaths : Env 𝓤 H → List (Item 𝓤) → List (Item 𝓤)
+  deaths [] Γ = Γ
+  deaths (e ∷ E) Γ = deaths E (‵ (fdies (e .0) (e .1)) ∷ Γ)
 
   -- E has the locals es one behind the other, from number i + p on
   abbrev pub Standing : Env 𝓤 H → ℕ → ℕ → Env 𝓤 H → Type 0
@@ -93,7 +100,8 @@ module _ {M : Type 1} {𝓤 : URA M} {H : Heap 𝓤} {A : Atoms 𝓤} {K : Type 
   enters t {ls} {Kt} k = allocated t ls Γ Kt k
 
   -- (the context is spelled by `refl`: what stands on top, what the locals hold, and what stands behind them)
-  pub leaves : K → (Δ : List (Item 𝓤)) (us : List (Option Val)) (Δ′ : List (Item 𝓤)) {E : Env 𝓤 H} {g : Goal 𝓤 H} → Δ ++ laid 𝓤 H E us Δ′ ≡
+  pub leaves : K → (Δ : List (Item 𝓤)) (us : List (Option Val)) (Δ′ : List (Item 𝓤)) {E : Env 𝓤 H} {g : Goal 𝓤 H}
+      → Δ ++ laid 𝓤 H E us Δ′ ≡
       Γ → Step K W (Δ ++ Δ′) g Γ (frees E g)
   leaves t Δ us Δ′ {E} {g} e = step (λ s. subst (λ (Γ₀ : List (Item 𝓤)). Seq K W Γ₀ (frees E g)) e (record {
     prf = via 𝓤 (sep 𝓤 (⋆ 𝓤 H A Δ) (⋆ 𝓤 H A (laid 𝓤 H E us Δ′))) (⊢++ 𝓤 H A Δ (laid 𝓤 H E us Δ′))
