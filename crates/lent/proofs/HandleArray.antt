@@ -1,10 +1,12 @@
--- A table by value, whole or its first records, for any record struct (S), event (E), answer (D), count, and any struct Z of the table and
+-- A table by value, whole or its first records, for any record struct (S), event (E), answer (D), count, and any struct Z of the table
+-- and
 -- the answer, in this order:
 --     fn handle_n(table: [S; n], key: u32, e: E) -> Z
 --     { let mut t = table; let done = handle(&mut t, key, e); Z { table: t, done } }
 --     fn handle_first(table: [S; n], m: usize, key: u32, e: E) -> Z
 --     { let mut t = table; let done = handle(&mut t[..m], key, e); Z { table: t, done } }
--- where m is at most n. The table stands in a local; its records, or the first m, are lent as a `&mut` slice for the call of `handle`, come
+-- where m is at most n. The table stands in a local; its records, or the first m, are lent as a `&mut` slice for the call of `handle`,
+-- come
 -- back at the last list, stand before the others again, and the whole is returned.
 --     Extent                   which of the two
 --     code, ended, clauses     what a crate's generated function computes to
@@ -375,15 +377,14 @@ module _ (S : Row) (E D Z : Plain) (count : ℕ) (fits : T (ltb count (2 ^ 64)))
 
       walk-all : Walk all-of-it count
       walk-all =
-          let len : length xs ≡ count = gx .1 .0 .1 in
           qed W (‵ ftrue ∷ ‵ (owns (Rs ∷ u32 ∷ typeOf E ∷ []) (args all-of-it count) (vals all-of-it count)) ∷ []) ∵
           enter ! (𝓣 .C) (𝓣 .Λ) (code all-of-it) (ux ∷ vint w32 key ∷ ue ∷ []) _ $
           enters ! (λ l₀ l₁ l₂ l₃ l₄ l₅ l₆ l₇ l₈. params1 ! $ pass1 ! (init ! 14 refl (array-typed S count 𝓤 H A W xs ux gx)) $
           pass1 ! (init ! 12 refl (tt, record { fits = gk })) $ pass1 ! (init ! 10 refl (E .lawful 𝓤 H A W .typed e _ ge .0)) $ pass0 ! $
           move ! (14 ∷ 16 ∷ 0 ∷ 2 ∷ 4 ∷ 6 ∷ 8 ∷ 10 ∷ 12 ∷ []) $
           runs-through 𝓤 H A W (𝓣 .C) (𝓣 .Λ) (fmOf 𝓤 H (W .laws) 𝓣) known xs [] count key e ux ue
-          (subst (λ (zs : List X). Is Rs zs (ux ∷ [])) (sym (append-nil xs)) gx) (ltb→lt count (2 ^ 64) fits) gk ge len
-          (subst (Room R) (sym len) roomy)
+          (subst (λ (zs : List X). Is Rs zs (ux ∷ [])) (sym (append-nil xs)) gx) (ltb→lt count (2 ^ 64) fits) gk ge (gx .1 .0 .1)
+          (subst (Room R) (sym (gx .1 .0 .1)) roomy)
           0 (int w64 count) _ _ l₀ l₁ l₂ l₃ l₄ l₅ l₆ l₇ l₈ _ (refl, (refl, (refl, (refl, (refl, (refl, (refl, tt))))))) (lit ! fits)
           (λ zs r gz gr told.
           move ! (3 ∷ 9 ∷ 4 ∷ 10 ∷ 5 ∷ 11 ∷ 6 ∷ 12 ∷ 0 ∷ 13 ∷ 7 ∷ 14 ∷ 8 ∷ 15 ∷ 1 ∷ 16 ∷ 2 ∷ 17 ∷ []) $
@@ -391,9 +392,11 @@ module _ (S : Row) (E D Z : Plain) (count : ℕ) (fits : T (ltb count (2 ^ 64)))
           by ! (exits 𝓤 H A W all-of-it (args all-of-it count) (vals all-of-it count) (zs ++ []) r gz gr
           (told .0, append-nil zs ∙ told .1))))
 
+      taken : (m : ℕ) → m ≤ count → length (take m xs) ≡ m
+      taken m fewer = length-take-le m xs (subst (λ (k : ℕ). m ≤ k) (sym (gx .1 .0 .1)) fewer)
+
       walk-first : (m : ℕ) → m < 2 ^ 64 → m ≤ count → Walk its-first m
       walk-first m gm fewer =
-          let len : length (take m xs) ≡ m = length-take-le m xs (subst (λ (k : ℕ). m ≤ k) (sym (gx .1 .0 .1)) fewer) in
           qed W (‵ ftrue ∷ ‵ (owns (Rs ∷ usize ∷ u32 ∷ typeOf E ∷ []) (args its-first m) (vals its-first m)) ∷ []) ∵
           enter ! (𝓣 .C) (𝓣 .Λ) (code its-first) (ux ∷ vint w64 m ∷ vint w32 key ∷ ue ∷ []) _ $
           enters ! (λ l₀ l₁ lₘ l₂ l₃ l₄ l₅ l₆ l₇ l₈. params1 ! $
@@ -401,7 +404,7 @@ module _ (S : Row) (E D Z : Plain) (count : ℕ) (fits : T (ltb count (2 ^ 64)))
           pass1 ! (init ! 12 refl (tt, record { fits = gk })) $ pass1 ! (init ! 10 refl (E .lawful 𝓤 H A W .typed e _ ge .0)) $ pass0 ! $
           move ! (16 ∷ 18 ∷ 0 ∷ 2 ∷ 4 ∷ 6 ∷ 8 ∷ 10 ∷ 12 ∷ 14 ∷ []) $
           runs-through 𝓤 H A W (𝓣 .C) (𝓣 .Λ) (fmOf 𝓤 H (W .laws) 𝓣) known (take m xs) (drop m xs) m key e ux ue
-          (subst (λ (zs : List X). Is Rs zs (ux ∷ [])) (sym (take-append-drop m xs)) gx) gm gk ge len
+          (subst (λ (zs : List X). Is Rs zs (ux ∷ [])) (sym (take-append-drop m xs)) gx) gm gk ge (taken m fewer)
           (room-take R count m xs (gx .1 .0 .1) roomy)
           1 (copy (place 2 [])) _ _ l₀ l₁ l₂ l₃ l₄ l₅ l₆ l₇ l₈ _ (refl, (refl, (refl, (refl, (refl, (refl, (refl, tt)))))))
           (load ! (from ! (stop !)) (look ! 9 refl)) (λ zs r gz gr told.

@@ -6,6 +6,7 @@ pub mod Search
 pub mod Put
 pub mod Find
 pub mod Lend
+pub mod Outcome
 pub mod Handle
 pub mod ByValue
 pub mod HandleArray
