@@ -36,7 +36,7 @@ use denote.Exit.{yes}
 use Rattle.lent.proofs.Sizes.{last-of, silent-of}
 use Rattle.lent.proofs.Record.{Plain, Values, typeOf, IsOf, Row}
 use Rattle.lent.proofs.Locals.{deaths, enters, leaves}
-use Rattle.lent.proofs.Ask.{said}
+use Rattle.lent.proofs.Ask.{taking, said}
 use Rattle.lent.proofs.Reading.{Names, Start, Step, scanOf}
 use Rattle.lent.proofs.Reading as reading
 
@@ -56,15 +56,7 @@ module _ (S : Row) (any : S .type .D) (B P : Plain) (startOf : Values B → Valu
 
   -- ---- the contract
   abbrev pub ended : Ended
-  ended = record {
-    signature = record {
-      lifetimes = 1;
-      outlives = [];
-      params = SliceRefOf (0 ∷ []) tt (plain (λ _. R)) (λ _. tt) ∷ plain (λ _. typeOf B) ∷ [];
-      result = plain (λ _. typeOf P);
-    };
-    kept = (yes, (yes, tt));
-  }
+  ended = taking 1 (SliceRefOf (0 ∷ []) tt (plain (λ _. R)) (λ _. tt) ∷ plain (λ _. typeOf B) ∷ []) (typeOf P)
 
   abbrev pub clauses : {M : Type 1} (𝓤 : URA M) → Clauses 𝓤 ended
   clauses 𝓤 = said 𝓤 ended (λ κs a r e. r ≡ scanOf S any B P startOf stepOf names (now (a .0)) (a .1 .0))

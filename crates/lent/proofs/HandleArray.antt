@@ -47,9 +47,9 @@ use denote.Memory.{pointee, mem as in-memory, shares}
 use denote.Array.{Array, array-vals, array-tells}
 use denote.Laws.{Is, shows}
 use denote.Plain.{uint-vals, uint-tells, uint-makes}
-use denote.Builtin.{u32, usize, SliceRefMutOf, ArrayOf}
+use denote.Builtin.{u32, usize, ArrayOf}
 use denote.Ref.{RefT, now}
-use denote.Slice.{sliceTy, sliceVal, MutSlice, Room}
+use denote.Slice.{sliceVal, MutSlice, Room}
 use denote.Lend.{Held, lends-slice, slice-back}
 use denote.Index.{row, whole-in, whole-out}
 use denote.Signature.{Slot, Signature, plain, typesAt}
@@ -70,8 +70,9 @@ use borrow.Table.Elements.{at as past, cut-app, join-app}
 use borrow.Rule.Array.Share.{room-take}
 use Rattle.lent.proofs.Sizes.{last-of, silent-of}
 use Rattle.lent.proofs.Record.{Plain, Row, tyOf, Values, typeOf, IsOf}
-use Rattle.lent.proofs.Locals.{Standing, enters, leaves, at}
-use Rattle.lent.proofs.Ask.{said}
+use Rattle.lent.proofs.Locals.{byValue, Standing, enters, leaves, at}
+use Rattle.lent.proofs.Ask.{taking}
+use Rattle.lent.proofs.Outcome.{rowTo, handling, handles}
 use Rattle.lent.proofs.ByValue.{av, Both, array-typed, array-in, array-out}
 
 -- all records are lent; or the first, as many as a parameter says
@@ -90,7 +91,7 @@ module _ (S : Row) (E D Z : Plain) (count : ℕ) (fits : T (ltb count (2 ^ 64)))
   X = S .type .D
 
   abbrev slice : Ty
-  slice = sliceTy (tyRef erased mut (pointee (R .written)))
+  slice = rowTo S erased mut
 
   abbrev whole-ref : Ty
   whole-ref = tyRef erased mut (tyArray (pointee (R .written)) count)
@@ -131,9 +132,8 @@ module _ (S : Row) (E D Z : Plain) (count : ℕ) (fits : T (ltb count (2 ^ 64)))
     lifetimes = 0;
     outlives = [];
     params = paramsOf z;
-    locals = local (Z .data′ .ty) valueLocal ∷ local α valueLocal ∷ more z (local (tyInt w32) valueLocal ∷ local (E .data′ .ty) valueLocal
-        ∷ local α memorySlot ∷ local (D .data′ .ty) valueLocal ∷ local whole-ref valueLocal ∷ local slice valueLocal ∷ local α valueLocal
-        ∷ []);
+    locals = byValue (Z .data′ .ty ∷ α ∷ []) ++ more z (byValue (tyInt w32 ∷ E .data′ .ty ∷ []) ++ (local α memorySlot
+        ∷ byValue (D .data′ .ty ∷ whole-ref ∷ slice ∷ α ∷ [])));
     body = bodyOf z;
   }
 
@@ -142,16 +142,11 @@ module _ (S : Row) (E D Z : Plain) (count : ℕ) (fits : T (ltb count (2 ^ 64)))
   moreSlots all-of-it ss = ss
   moreSlots its-first ss = plain (λ _. usize) ∷ ss
 
-  abbrev pub signature : Extent → Signature
-  signature z = record {
-    lifetimes = 0;
-    outlives = [];
-    params = ArrayOf (plain (λ _. R)) (λ _. tt) count ∷ moreSlots z (plain (λ _. u32) ∷ plain (λ _. typeOf E) ∷ []);
-    result = plain (λ _. typeOf Z);
-  }
-
   abbrev pub ended : Extent → Ended
-  ended z = record { signature = signature z; kept = all yes (signature z .params) }
+  ended z = taking 0 (ArrayOf (plain (λ _. R)) (λ _. tt) count ∷ moreSlots z (plain (λ _. u32) ∷ plain (λ _. typeOf E) ∷ [])) (typeOf Z)
+
+  abbrev pub signature : Extent → Signature
+  signature z = ended z .signature
 
   -- how many are lent, the key, and the event
   abbrev given′ : (z : Extent) → Args (signature z) tt → ℕ × ℕ × Values E
@@ -190,25 +185,12 @@ module _ (S : Row) (E D Z : Plain) (count : ℕ) (fits : T (ltb count (2 ^ 64)))
   stayed z = dropped (signature z .params)
 
   -- ---- the contract of what it calls
-  abbrev hended : Ended
-  hended = record {
-    signature = record {
-      lifetimes = 1;
-      outlives = [];
-      params = SliceRefMutOf (0 ∷ []) tt (plain (λ _. R)) (λ _. tt) ∷ plain (λ _. u32)
-          ∷ plain (λ _. typeOf E) ∷ [];
-      result = plain (λ _. typeOf D);
-    };
-    kept = (yes, (yes, (yes, tt)));
-  }
-
-  abbrev hclauses : {M : Type 1} (𝓤 : URA M) → Clauses 𝓤 hended
-  hclauses 𝓤 = said 𝓤 hended (λ κs a r e. (r ≡ answerOf (now (a .0)) (a .1 .0) (a .1 .1 .0))
-      × (now (e .0) ≡ rowsOf (now (a .0)) (a .1 .0) (a .1 .1 .0)))
+  abbrev called : {M : Type 1} (𝓤 : URA M) → Clauses 𝓤 (handling S E D)
+  called 𝓤 = handles S E D answerOf rowsOf 𝓤
 
   module _ {M : Type 1} (𝓤 : URA M) (H : Heap 𝓤) (A : Atoms 𝓤) where
     abbrev pub Handle : Contract 𝓤
-    Handle = tripleOf 𝓤 H A (hended .signature) (closing 𝓤 H A hended (hclauses 𝓤))
+    Handle = tripleOf 𝓤 H A (handling S E D .signature) (closing 𝓤 H A (handling S E D) (called 𝓤))
 
   -- ---- from the locals to the return, where ys is lent and others are not
   module _ {M : Type 1} (𝓤 : URA M) (H : Heap 𝓤) (A : Atoms 𝓤) (W : Given 𝓤 H A) (C : Calls 𝓤 H) (Λ : Loops 𝓤 H)
@@ -292,10 +274,11 @@ module _ (S : Row) (E D Z : Plain) (count : ℕ) (fits : T (ltb count (2 ^ 64)))
           (and-then ! (load ! (at ! at₂ (stop !)) (look ! 10 refl)) (and-then ! (load ! (at ! at₃ (stop !)) (look ! 9 refl))
           (no-more !)))) (λ w.
           use1 W (later (any-of (λ (r : Values D). ((‵ (flft (ν ∷ []) fullShare) ⊛ ‵ ftrue) ⊛ ‵ (typeOf D .own r (w ∷ []))) ⊛ raw
-          (ensured 𝓤 H A hended (hclauses 𝓤) (ν ∷ [], tt) (x l₄ δ, (key, (e, tt))) tt r)))) (id⊢ 𝓤 _) $ await ! tt $ pick ! (λ r.
+          (ensured 𝓤 H A (handling S E D) (called 𝓤) (ν ∷ [], tt) (x l₄ δ, (key, (e, tt))) tt r)))) (id⊢ 𝓤 _) $ await ! tt $ pick ! (λ r.
           split ! $ move ! (1 ∷ []) $
-          use1 W (any-of (λ (zs : Lasts hended (ν ∷ [], tt) (x l₄ δ, (key, (e, tt)))). ‵
-          (lasts hended (ν ∷ [], tt) (x l₄ δ, (key, (e, tt))) zs) ⊛ raw (fact 𝓤 ((r ≡ answerOf ys key e) × (zs .0 ≡ rowsOf ys key e)))))
+          use1 W (any-of (λ (zs : Lasts (handling S E D) (ν ∷ [], tt) (x l₄ δ, (key, (e, tt)))). ‵
+          (lasts (handling S E D) (ν ∷ [], tt) (x l₄ δ, (key, (e, tt))) zs) ⊛ raw
+          (fact 𝓤 ((r ≡ answerOf ys key e) × (zs .0 ≡ rowsOf ys key e)))))
           (id⊢ 𝓤 _) $ pick ! (λ zs.
           split ! $ move ! (1 ∷ []) $ heard ! ((r ≡ answerOf ys key e) × (zs .0 ≡ rowsOf ys key e)) (λ told. fsplit ! $ fsplit ! $
           move ! (1 ∷ []) $ feqL ! (λ l. move ! (1 ∷ []) $ let-go ! $

@@ -7,9 +7,9 @@ pub mod Put
 pub mod Find
 pub mod Lend
 pub mod Outcome
-pub mod Handle
 pub mod ByValue
 pub mod HandleArray
+pub mod Handle
 pub mod Reading
 pub mod Fold
 pub mod Survey
