@@ -1,8 +1,10 @@
 // The bench run of 01 on one call, a line for each event (docs/CELLS.md, "The bench run").
+use crate::line::put_answer;
+use crate::line::put_bar;
 use crate::line::write_line;
-use crate::words;
 use call::Call;
 use call::Outcome;
+use events::Act;
 use events::Event;
 use lines::put_byte;
 use lines::put_number;
@@ -38,7 +40,7 @@ fn begin() -> Run {
     });
     let mut line = [0u8; 256];
     let mut place = put_label(&mut line, 1);
-    place = words::put_opening(&mut line, place, 7, wanted);
+    place = event_words::put_event(&mut line, place, 7, Act::Opens(wanted));
     finish(&mut line, place, Call::opened(7, wanted))
 }
 
@@ -84,7 +86,7 @@ impl Run {
         let call = self.call;
         let mut line = [0u8; 256];
         let mut place = put_label(&mut line, number);
-        place = words::put_event(&mut line, place, event);
+        place = event_words::put_keyless(&mut line, place, event);
         finish(&mut line, place, call.handle(event))
     }
 }
@@ -92,7 +94,7 @@ impl Run {
 fn put_label(line: &mut [u8], number: u64) -> usize {
     let mut place = put_byte(line, 0, b'B');
     place = put_number(line, place, number);
-    words::put_bar(line, place)
+    put_bar(line, place)
 }
 
 // Ends a step's line with its outcome, and writes it.
@@ -100,11 +102,11 @@ fn finish(line: &mut [u8], at: usize, outcome: Outcome) -> Run {
     let answer = outcome.answer;
     let call = outcome.call;
     let signals = outcome.signals;
-    let mut place = words::put_bar(line, at);
-    place = words::put_answer(line, place, answer);
-    place = words::put_bar(line, place);
+    let mut place = put_bar(line, at);
+    place = put_answer(line, place, answer);
+    place = put_bar(line, place);
     place = put_after(line, place, call);
-    place = words::put_bar(line, place);
+    place = put_bar(line, place);
     place = signal_words::put_signals(line, place, signals);
     let written = write_line(line, place);
     Run {

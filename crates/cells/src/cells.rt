@@ -1,10 +1,12 @@
 // The cells of a state, and the openings, with the values and in the order of docs/CELLS.md.
 //
 // A function that prints answers false as soon as a write fails, and then nothing more is written.
+use crate::line::put_answer;
+use crate::line::put_bar;
 use crate::line::write_line;
-use crate::words;
 use call::Call;
 use call::Outcome;
+use events::Act;
 use events::Event;
 use rows::State;
 use signal::Crankback;
@@ -145,8 +147,8 @@ fn print_called(call: Call, connection: u16, cause: ReceivedCause, crankback: Cr
 fn print_cell(call: Call, event: Event) -> bool {
     let mut line = [0u8; 256];
     let mut place = source_words::put_call(&mut line, 0, call);
-    place = words::put_bar(&mut line, place);
-    place = words::put_event(&mut line, place, event);
+    place = put_bar(&mut line, place);
+    place = event_words::put_keyless(&mut line, place, event);
     place = put_outcome(&mut line, place, call.handle(event));
     write_line(&mut line, place)
 }
@@ -155,11 +157,11 @@ fn put_outcome(line: &mut [u8], at: usize, outcome: Outcome) -> usize {
     let answer = outcome.answer;
     let call = outcome.call;
     let signals = outcome.signals;
-    let mut place = words::put_bar(line, at);
-    place = words::put_answer(line, place, answer);
-    place = words::put_bar(line, place);
+    let mut place = put_bar(line, at);
+    place = put_answer(line, place, answer);
+    place = put_bar(line, place);
     place = source_words::put_call(line, place, call);
-    place = words::put_bar(line, place);
+    place = put_bar(line, place);
     signal_words::put_signals(line, place, signals)
 }
 
@@ -189,7 +191,7 @@ fn print_named(key: u32, hard: bool, soft: Soft) -> bool {
 
 fn print_opening(key: u32, wanted: Wanted) -> bool {
     let mut line = [0u8; 256];
-    let mut place = words::put_opening(&mut line, 0, key, wanted);
+    let mut place = event_words::put_event(&mut line, 0, key, Act::Opens(wanted));
     place = put_outcome(&mut line, place, Call::opened(key, wanted));
     write_line(&mut line, place)
 }

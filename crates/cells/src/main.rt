@@ -1,11 +1,10 @@
 // Prints the cells of one call, the openings and the bench run, by the letters that it reads (docs/CELLS.md).
 //
-// The methods of `call::Call` decide every event; the rest is printing. `line` builds a line and writes it, `words` says openings and events
-// in words, and `cells` and `bench` go through what a letter names.
+// The methods of `call::Call` decide every event; the rest is printing. `line` parts a line and writes it, crate event_words says openings
+// and events in words, and `cells` and `bench` go through what a letter names.
 mod bench;
 mod cells;
 mod line;
-mod words;
 
 use libc::STDIN_FILENO;
 use rows::State;

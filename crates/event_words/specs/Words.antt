@@ -1,4 +1,5 @@
--- An event with its key in words, as a line of `script` has them (docs/BENCH.md): the event's name, and every other word behind a blank. Assumes nothing.
+-- An event in words, with its key, as a line of `script` has them (docs/BENCH.md), or without: the event's name, and every other word
+-- behind a blank. Assumes nothing.
 use Prim.Native.Nat.{ℕ}
 use mathlib.Core.Bool.{Bool, true, false, cond}
 use mathlib.Core.List.{List, [], _++_}
@@ -79,6 +80,10 @@ valuesText (FromParty cause) = causeText cause
 valuesText (FromDomain c cause back) = thenNumber c ++ (causeText cause ++ crankbackText back)
 valuesText Ready = []
 valuesText Expiry = []
+
+-- an event of a call that is known (docs/CELLS.md, "A cell")
+abbrev pub keylessText : Event → List ℕ
+keylessText e = eventName e ++ valuesText e
 
 abbrev pub restText : Act → List ℕ
 restText (Opens w) = wantedText w

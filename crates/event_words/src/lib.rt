@@ -1,9 +1,9 @@
-// An event with its key in words, as a line of `script` has them, for instance `setup 7 clearing 3` (docs/BENCH.md).
+// An event in words: with its key, as a line of `script` has them, for instance `setup 7 clearing 3` (docs/BENCH.md), or without (docs/CELLS.md).
 //
 // Each function puts what it is named after into a lent buffer, from a place on, and answers the place behind it (crate lines).
 ghost use mathlib.Core.Path.{_≡_};
 ghost use Rattle.lines.specs.Lines.{page, putText};
-ghost use Rattle.event_words.specs.Words.{thenNumber, hardText, softText, wantedText, policyText, codeText, causeText, crankbackText, eventName, nameText, valuesText, restText, eventText};
+ghost use Rattle.event_words.specs.Words.{thenNumber, hardText, softText, wantedText, policyText, codeText, causeText, crankbackText, eventName, nameText, valuesText, keylessText, restText, eventText};
 ghost use Rattle.events.specs.declared.Event.the-variants.{Connect, Setup, FromDomain};
 use events::Act;
 use events::Event;
@@ -163,6 +163,14 @@ fn put_values(out: &mut [u8], at: usize, event: Event) -> usize
         Event::Ready => at,
         Event::Expiry => at,
     }
+}
+
+// An event of a call that is known.
+pub fn put_keyless(out: &mut [u8], at: usize, event: Event) -> usize
+    ensures { λ r. ⌜ page (now (out .exit)) r ≡ putText (page (now (out .entry)) at) (keylessText event) ⌝ }
+{
+    let named = put_event_name(out, at, event);
+    put_values(out, named, event)
 }
 
 fn put_rest(out: &mut [u8], at: usize, act: Act) -> usize
