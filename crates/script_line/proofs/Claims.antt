@@ -32,7 +32,7 @@ use Rattle.script_line.specs.declared.Name.{Name}
 use Rattle.script_line.specs.declared.Name.the-variants.{OpenName, TriggerName, PathName, NoPathName, ConnectName, SetupName, CallingName, CalledName, ReadyName, ExpiryName}
 use Rattle.script_line.specs.declared.Parsed.{Parsed}
 use Rattle.script_line.specs.declared.Parsed.the-variants.{Told}
-use Rattle.script_line.specs.Script.{nameOf, endOf, softOf, openOf, policyOf, withNumber, connectOf, codeOf, incarnationOf, setupOf, callingCauseOf, callingOf, crankbackOf, calledCauseOf, releaseOf, calledOf, argumentsOf, keyedOf, parsedOf}
+use Rattle.script_line.specs.Script.{plainName, fullName, nameOf, endOf, softOf, openOf, policyOf, withNumber, connectOf, codeOf, incarnationOf, setupOf, callingCauseOf, callingOf, crankbackOf, calledCauseOf, releaseOf, calledOf, argumentsOf, keyedOf, parsedOf}
 use Rattle.script_line.specs.Claims as claim
 use Rattle.script_line.proofs.Fits.{Sound, fits-of, parsed-sound}
 use Rattle.script_line.proofs.Tails.{parsed-same}
@@ -177,7 +177,7 @@ unfolding endOf firstWord
 nothing-told key act = refl
 
 event-told : (key : ℕ) (e : Event) → Fits key (Meets e) → parsedOf (eventText key (Meets e)) ≡ Told key (Meets e)
-unfolding parsedOf nameOf firstWord afterWord
+unfolding parsedOf plainName fullName nameOf firstWord afterWord
 event-told key Trigger h = keyed-told TriggerName key [] (h .0) tt ∙ nothing-told key (Meets Trigger)
 event-told key PathFound h = keyed-told PathName key [] (h .0) tt ∙ nothing-told key (Meets PathFound)
 event-told key NoPath h = keyed-told NoPathName key [] (h .0) tt ∙ nothing-told key (Meets NoPath)
@@ -189,7 +189,7 @@ event-told key Ready h = keyed-told ReadyName key [] (h .0) tt ∙ nothing-told 
 event-told key Expiry h = keyed-told ExpiryName key [] (h .0) tt ∙ nothing-told key (Meets Expiry)
 
 opening-told : (key : ℕ) (w : Wanted) → key < 4294967296 → parsedOf (eventText key (Opens w)) ≡ Told key (Opens w)
-unfolding parsedOf nameOf firstWord afterWord
+unfolding parsedOf plainName fullName nameOf firstWord afterWord
 opening-told key w h = keyed-told OpenName key (wantedText w) h (parted (Opens w)) ∙ opens-wanted key w
 
 line-told : (key : ℕ) (act : Act) → Fits key act → parsedOf (eventText key act) ≡ Told key act

@@ -30,18 +30,31 @@ use Rattle.script_words.specs.declared.What.the-variants.{AnEvent, AKey, HardOr
 abbrev pub isWord : List ℕ → String → Bool
 isWord word name = sameText word (ascii name)
 
-unfoldable pub nameOf : List ℕ → Naming
-nameOf word =
-    cond (isWord word "open") (Names OpenName)
-    (cond (isWord word "trigger") (Names TriggerName)
+-- an event that is only a key
+unfoldable pub plainName : List ℕ → Naming
+plainName word =
+    cond (isWord word "trigger") (Names TriggerName)
     (cond (isWord word "path") (Names PathName)
     (cond (isWord word "nopath") (Names NoPathName)
+    (cond (isWord word "ready") (Names ReadyName)
+    (cond (isWord word "expiry") (Names ExpiryName) NoName))))
+
+-- an opening, or an event that may bring more than its key
+unfoldable pub fullName : List ℕ → Naming
+fullName word =
+    cond (isWord word "open") (Names OpenName)
     (cond (isWord word "connect") (Names ConnectName)
     (cond (isWord word "setup") (Names SetupName)
     (cond (isWord word "calling") (Names CallingName)
-    (cond (isWord word "called") (Names CalledName)
-    (cond (isWord word "ready") (Names ReadyName)
-    (cond (isWord word "expiry") (Names ExpiryName) NoName)))))))))
+    (cond (isWord word "called") (Names CalledName) NoName))))
+
+-- one name, or else another
+abbrev pub orNamed : Naming → Naming → Naming
+orNamed NoName other = other
+orNamed (Names name) other = Names name
+
+unfoldable pub nameOf : List ℕ → Naming
+nameOf word = orNamed (plainName word) (fullName word)
 
 -- nothing may follow
 unfoldable pub endOf : ℕ → Act → List ℕ → Parsed

@@ -4,7 +4,7 @@
 ghost use mathlib.Core.Path.{_≡_};
 ghost use lib.ListN.{drop};
 ghost use Rattle.line_words.specs.Words.{firstWord};
-ghost use Rattle.script_line.specs.Script.{nameOf, endOf, servicesOf, softOf, openOf, policyOf, connectOf, codeOf, incarnationOf, setupOf, callingCauseOf, callingOf, crankbackOf, calledCauseOf, releaseOf, calledOf, argumentsOf, keyedOf, parsedOf};
+ghost use Rattle.script_line.specs.Script.{plainName, fullName, nameOf, endOf, servicesOf, softOf, openOf, policyOf, connectOf, codeOf, incarnationOf, setupOf, callingCauseOf, callingOf, crankbackOf, calledCauseOf, releaseOf, calledOf, argumentsOf, keyedOf, parsedOf};
 use events::Act;
 use events::Event;
 use line_words::Reading;
@@ -307,12 +307,10 @@ fn keyed(line: &[u8], at: usize, name: Name) -> Parsed
     }
 }
 
-fn named(line: &[u8]) -> Naming
-    ensures { λ r. ⌜ r ≡ nameOf (firstWord (now (line .entry))) ⌝ }
+// An event that is only a key.
+fn plain_name(line: &[u8]) -> Naming
+    ensures { λ r. ⌜ r ≡ plainName (firstWord (now (line .entry))) ⌝ }
 {
-    if is(line, 0, b"open") {
-        return Naming::Names(Name::OpenName);
-    }
     if is(line, 0, b"trigger") {
         return Naming::Names(Name::TriggerName);
     }
@@ -321,6 +319,22 @@ fn named(line: &[u8]) -> Naming
     }
     if is(line, 0, b"nopath") {
         return Naming::Names(Name::NoPathName);
+    }
+    if is(line, 0, b"ready") {
+        return Naming::Names(Name::ReadyName);
+    }
+    if is(line, 0, b"expiry") {
+        return Naming::Names(Name::ExpiryName);
+    }
+    Naming::NoName
+}
+
+// An opening, or an event that may bring more than its key.
+fn full_name(line: &[u8]) -> Naming
+    ensures { λ r. ⌜ r ≡ fullName (firstWord (now (line .entry))) ⌝ }
+{
+    if is(line, 0, b"open") {
+        return Naming::Names(Name::OpenName);
     }
     if is(line, 0, b"connect") {
         return Naming::Names(Name::ConnectName);
@@ -334,13 +348,17 @@ fn named(line: &[u8]) -> Naming
     if is(line, 0, b"called") {
         return Naming::Names(Name::CalledName);
     }
-    if is(line, 0, b"ready") {
-        return Naming::Names(Name::ReadyName);
-    }
-    if is(line, 0, b"expiry") {
-        return Naming::Names(Name::ExpiryName);
-    }
     Naming::NoName
+}
+
+fn named(line: &[u8]) -> Naming
+    ensures { λ r. ⌜ r ≡ nameOf (firstWord (now (line .entry))) ⌝ }
+{
+    let plain = plain_name(line);
+    match plain {
+        Naming::NoName => full_name(line),
+        Naming::Names(name) => Naming::Names(name),
+    }
 }
 
 pub fn parse(line: &[u8]) -> Parsed
