@@ -13,4 +13,5 @@ by-kind P none one two three four five six seven eight nine more (suc (suc (suc 
 by-kind P none one two three four five six seven eight nine more (suc (suc (suc (suc (suc (suc (suc zero))))))) = seven
 by-kind P none one two three four five six seven eight nine more (suc (suc (suc (suc (suc (suc (suc (suc zero)))))))) = eight
 by-kind P none one two three four five six seven eight nine more (suc (suc (suc (suc (suc (suc (suc (suc (suc zero))))))))) = nine
-by-kind P none one two three four five six seven eight nine more (suc (suc (suc (suc (suc (suc (suc (suc (suc (suc k)))))))))) = more (suc (suc (suc (suc (suc (suc (suc (suc (suc (suc k)))))))))) (omega arith)
+by-kind P none one two three four five six seven eight nine more (suc (suc (suc (suc (suc (suc (suc (suc (suc (suc k)))))))))) =
+    more (suc (suc (suc (suc (suc (suc (suc (suc (suc (suc k)))))))))) (omega arith)

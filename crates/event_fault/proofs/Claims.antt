@@ -17,12 +17,14 @@ exactly r f both-sound = (λ e none. let z : _≡_ {A = ℕ} 0 1 = cc in omega a
 
 pub exactly-the-bad : claim.ExactlyTheBad
 exactly-the-bad os octets =
-    exactly _ _ (kind-alike (octet os 1) (octet os 2) (octet os 3) (octet os 8) (octet os 9) (octet os 10) (octet os 11) (octets 10) (octets 11) (octet os 0))
+    exactly _ _ (kind-alike (octet os 1) (octet os 2) (octet os 3) (octet os 8) (octet os 9) (octet os 10) (octet os 11) (octets 10)
+    (octets 11) (octet os 0))
 
 pub all-are-named : claim.AllAreNamed
 all-are-named os octets e = subst (Tells (octet os) (octet os 0)) e (kind-tells (octet os) octets (octet os 0) refl)
 
 pub the-first : claim.TheFirst
 the-first os octets byte value expected e =
-    let told : Tells (octet os) (octet os 0) (Misses byte value expected) = subst (Tells (octet os) (octet os 0)) e (kind-tells (octet os) octets (octet os 0) refl) in
+    let told : Tells (octet os) (octet os 0) (Misses byte value expected) =
+    subst (Tells (octet os) (octet os 0)) e (kind-tells (octet os) octets (octet os 0) refl) in
     (told .0, (told .1 .0, below _ byte (told .1 .1)))

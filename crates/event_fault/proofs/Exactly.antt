@@ -6,7 +6,7 @@ use mathlib.Core.Bool.{Bool, true, false, _||_, cond}
 use lib.Dec.{eqb, ltb}
 use borrow.Author.Tests.{ltb-true, ltb-false, lt-ltb, le-ltb, ne-eqb}
 use Rattle.events.specs.declared.Act.{Act}
-use Rattle.event_record.specs.Record.{numberOf, openOf, connectOf, callingOf, calledOf, askedOf}
+use Rattle.event_record.specs.Record.{numberOf, openOf, connectOf, callingOf, calledOf, requestOf}
 use Rattle.event_record.specs.declared.Request.{Request}
 use Rattle.event_record.specs.declared.Request.the-variants.{Bad, Asks}
 use Rattle.event_fault.specs.Fault.{openFault, connectionFault, connectFault, callingFault, calledFault, kindFault}
@@ -20,7 +20,8 @@ pub data Alike : Request → Fault → Type 0 where
   both-sound : {act : Act} → Alike (Asks act) NoFault
 
 -- one test more in front of both
-tested : (t : Bool) (byte value : ℕ) (expected : Expected) {r : Request} {f : Fault} → Alike r f → Alike (cond t Bad r) (cond t (Misses byte value expected) f)
+tested : (t : Bool) (byte value : ℕ) (expected : Expected) {r : Request} {f : Fault} → Alike r f →
+    Alike (cond t Bad r) (cond t (Misses byte value expected) f)
 tested true byte value expected a = both-bad
 tested false byte value expected a = a
 
@@ -29,7 +30,8 @@ sound-where true act a = both-sound
 sound-where false act a = a
 
 open-alike : (named hard soft : ℕ) → Alike (openOf named hard soft) (openFault named hard soft)
-open-alike named hard soft = sound-where (eqb named 0) _ (tested (ltb 1 named) _ _ _ (tested (ltb 1 hard) _ _ _ (tested (ltb 2 soft) _ _ _ both-sound)))
+open-alike named hard soft =
+    sound-where (eqb named 0) _ (tested (ltb 1 named) _ _ _ (tested (ltb 1 hard) _ _ _ (tested (ltb 2 soft) _ _ _ both-sound)))
 
 -- a number of four octets is above 65,535 exactly where one of the first two is not 0
 above-exactly : (a b c d : ℕ) → c < 256 → d < 256 → ltb 65535 (numberOf a b c d) ≡ (ltb 0 a || ltb 0 b)
@@ -46,7 +48,8 @@ tested-twice true t byte value other another expected wanted act = both-bad
 tested-twice false true byte value other another expected wanted act = both-bad
 tested-twice false false byte value other another expected wanted act = both-sound
 
-connection-alike : (a b c d : ℕ) (act : Act) → c < 256 → d < 256 → Alike (cond (ltb 65535 (numberOf a b c d)) Bad (Asks act)) (connectionFault a b)
+connection-alike : (a b c d : ℕ) (act : Act) → c < 256 → d < 256 →
+    Alike (cond (ltb 65535 (numberOf a b c d)) Bad (Asks act)) (connectionFault a b)
 connection-alike a b c d act p q = rw (above-exactly a b c d p q) (tested-twice (ltb 0 a) (ltb 0 b) _ _ _ _ _ _ _)
 
 module _ (first second third a b c d : ℕ) (p : c < 256) (q : d < 256) where
@@ -60,7 +63,7 @@ module _ (first second third a b c d : ℕ) (p : c < 256) (q : d < 256) where
   called-alike = tested (ltb 1 first) _ _ _ (tested (ltb 2 third) _ _ _ (connection-alike a b c d _ p q))
 
   -- no kind above 9 is named
-  above : (kind : ℕ) → 9 < kind → Alike (askedOf kind first second third (numberOf a b c d)) (kindFault kind first second third a b)
+  above : (kind : ℕ) → 9 < kind → Alike (requestOf kind first second third (numberOf a b c d)) (kindFault kind first second third a b)
   above kind h =
       rw (
         lt-ltb 9 kind h,
@@ -76,9 +79,9 @@ module _ (first second third a b c d : ℕ) (p : c < 256) (q : d < 256) where
         ne-eqb kind 9 (λ e. omega arith),
       ) both-bad
 
-  pub kind-alike : (kind : ℕ) → Alike (askedOf kind first second third (numberOf a b c d)) (kindFault kind first second third a b)
+  pub kind-alike : (kind : ℕ) → Alike (requestOf kind first second third (numberOf a b c d)) (kindFault kind first second third a b)
   kind-alike =
-      by-kind (λ kind. Alike (askedOf kind first second third (numberOf a b c d)) (kindFault kind first second third a b))
+      by-kind (λ kind. Alike (requestOf kind first second third (numberOf a b c d)) (kindFault kind first second third a b))
       (open-alike first second third)
       both-sound
       both-sound

@@ -7,7 +7,8 @@ use lib.Dec.{eqb, ltb}
 use borrow.Author.Tests.{eqb-true, eqb-false, ltb-true, ltb-false, lt-ltb}
 use Rattle.event_fault.specs.Claims.{hasConnection, highestFirst, highestSecond, highestThird, highest}
 use Rattle.event_fault.specs.Fault.{openFault, connectionFault, connectFault, callingFault, calledFault, kindFault}
-use Rattle.event_fault.specs.declared.Expected.the-variants.{NamedOrNot, HardFlag, SoftService, PolicyFlag, CausePresent, CrankbackFound, SmallConnection}
+use Rattle.event_fault.specs.declared.Expected.the-variants.{NamedOrNot, HardFlag, SoftService, PolicyFlag, CausePresent}
+use Rattle.event_fault.specs.declared.Expected.the-variants.{CrankbackFound, SmallConnection}
 use Rattle.event_fault.specs.declared.Fault.{Fault}
 use Rattle.event_fault.specs.declared.Fault.the-variants.{NoFault, Misses}
 use Rattle.event_fault.proofs.ByKind.{by-kind}
@@ -28,7 +29,8 @@ below P (suc n) all i h = by-order (eqb i n) refl (λ under. below P n (all .0) 
 -- a fault: the value told is the byte's, is not named, and all before it is; none: every byte is named
 abbrev pub Tells : (ℕ → ℕ) → ℕ → Fault → Type 0
 Tells o kind NoFault = (i : ℕ) → o i ≤ highest kind (o 1) i
-Tells o kind (Misses byte value expected) = (o byte ≡ value) × ((o byte ≤ highest kind (o 1) byte → ⊥) × Below (λ i. o i ≤ highest kind (o 1) i) byte)
+Tells o kind (Misses byte value expected) =
+    (o byte ≡ value) × ((o byte ≤ highest kind (o 1) byte → ⊥) × Below (λ i. o i ≤ highest kind (o 1) i) byte)
 
 module _ (o : ℕ → ℕ) (octets : (i : ℕ) → o i < 256) where
   any : (i : ℕ) → o i ≤ 255
@@ -52,31 +54,37 @@ module _ (o : ℕ → ℕ) (octets : (i : ℕ) → o i < 256) where
   all-named : (kind : ℕ) → o 0 ≤ 9 → o 1 ≤ highestFirst kind → o 2 ≤ highestSecond kind (o 1) → o 3 ≤ highestThird kind (o 1) →
       o 8 ≤ cond (hasConnection kind) 0 255 → o 9 ≤ cond (hasConnection kind) 0 255 → (i : ℕ) → o i ≤ highest kind (o 1) i
   all-named kind zeroth first second third eighth ninth i =
-      picked i 0 _ _ zeroth (picked i 1 _ _ first (picked i 2 _ _ second (picked i 3 _ _ third (picked-either i 8 9 _ _ eighth ninth (any i)))))
+      picked i 0 _ _ zeroth (picked i 1 _ _ first
+      (picked i 2 _ _ second (picked i 3 _ _ third (picked-either i 8 9 _ _ eighth ninth (any i)))))
 
   open-tells : o 0 ≡ 0 → Tells o 0 (openFault (o 1) (o 2) (o 3))
   open-tells k = by-named (eqb (o 1) 0) refl
     where
-      by-soft : eqb (o 1) 0 ≡ false → o 1 ≤ 1 → o 2 ≤ 1 → (t : Bool) → ltb 2 (o 3) ≡ t → Tells o 0 (cond t (Misses 3 (o 3) SoftService) NoFault)
+      by-soft : eqb (o 1) 0 ≡ false → o 1 ≤ 1 → o 2 ≤ 1 → (t : Bool) → ltb 2 (o 3) ≡ t →
+          Tells o 0 (cond t (Misses 3 (o 3) SoftService) NoFault)
       by-soft n a b true e = let h = ltb-true 2 (o 3) e in rw n (refl, (λ l. omega arith, (((tt, omega arith), a), b)))
       by-soft n a b false e = all-named 0 (omega arith) a (rw n b) (rw n (ltb-false 2 (o 3) e)) (any 8) (any 9)
 
-      by-hard : eqb (o 1) 0 ≡ false → o 1 ≤ 1 → (t : Bool) → ltb 1 (o 2) ≡ t → Tells o 0 (cond t (Misses 2 (o 2) HardFlag) (cond (ltb 2 (o 3)) (Misses 3 (o 3) SoftService) NoFault))
+      by-hard : eqb (o 1) 0 ≡ false → o 1 ≤ 1 → (t : Bool) → ltb 1 (o 2) ≡ t →
+          Tells o 0 (cond t (Misses 2 (o 2) HardFlag) (cond (ltb 2 (o 3)) (Misses 3 (o 3) SoftService) NoFault))
       by-hard n a true e = let h = ltb-true 1 (o 2) e in rw n (refl, (λ l. omega arith, ((tt, omega arith), a)))
       by-hard n a false e = by-soft n a (ltb-false 1 (o 2) e) (ltb 2 (o 3)) refl
 
       by-first : eqb (o 1) 0 ≡ false → (t : Bool) → ltb 1 (o 1) ≡ t →
-          Tells o 0 (cond t (Misses 1 (o 1) NamedOrNot) (cond (ltb 1 (o 2)) (Misses 2 (o 2) HardFlag) (cond (ltb 2 (o 3)) (Misses 3 (o 3) SoftService) NoFault)))
+          Tells o 0 (cond t (Misses 1 (o 1) NamedOrNot)
+          (cond (ltb 1 (o 2)) (Misses 2 (o 2) HardFlag) (cond (ltb 2 (o 3)) (Misses 3 (o 3) SoftService) NoFault)))
       by-first n true e = let h = ltb-true 1 (o 1) e in (refl, (λ l. omega arith, (tt, omega arith)))
       by-first n false e = by-hard n (ltb-false 1 (o 1) e) (ltb 1 (o 2)) refl
 
       by-named : (t : Bool) → eqb (o 1) 0 ≡ t →
-          Tells o 0 (cond t NoFault (cond (ltb 1 (o 1)) (Misses 1 (o 1) NamedOrNot) (cond (ltb 1 (o 2)) (Misses 2 (o 2) HardFlag) (cond (ltb 2 (o 3)) (Misses 3 (o 3) SoftService) NoFault))))
+          Tells o 0 (cond t NoFault (cond (ltb 1 (o 1)) (Misses 1 (o 1) NamedOrNot)
+          (cond (ltb 1 (o 2)) (Misses 2 (o 2) HardFlag) (cond (ltb 2 (o 3)) (Misses 3 (o 3) SoftService) NoFault))))
       by-named true n = let z = eqb-true (o 1) 0 n in all-named 0 (omega arith) (omega arith) (rw n (any 2)) (rw n (any 3)) (any 8) (any 9)
       by-named false n = by-first n (ltb 1 (o 1)) refl
 
   -- bytes 8 and 9 of a connection, where bytes 0 to 3 are named
-  connection-tells : (kind : ℕ) → hasConnection kind ≡ true → o 0 ≤ 9 → o 1 ≤ highestFirst kind → o 2 ≤ highestSecond kind (o 1) → o 3 ≤ highestThird kind (o 1) →
+  connection-tells : (kind : ℕ) → hasConnection kind ≡ true → o 0 ≤ 9 → o 1 ≤ highestFirst kind → o 2 ≤ highestSecond kind (o 1) →
+      o 3 ≤ highestThird kind (o 1) →
       Tells o kind (connectionFault (o 8) (o 9))
   connection-tells kind has zeroth first second third = by-highest (ltb 0 (o 8)) refl
     where
@@ -87,7 +95,8 @@ module _ (o : ℕ → ℕ) (octets : (i : ℕ) → o i < 256) where
       by-high a true e = let h = ltb-true 0 (o 9) e in (refl, (rw has (λ l. omega arith), (before, rw has a)))
       by-high a false e = all-named kind zeroth first second third (rw has a) (rw has (ltb-false 0 (o 9) e))
 
-      by-highest : (t : Bool) → ltb 0 (o 8) ≡ t → Tells o kind (cond t (Misses 8 (o 8) SmallConnection) (cond (ltb 0 (o 9)) (Misses 9 (o 9) SmallConnection) NoFault))
+      by-highest : (t : Bool) → ltb 0 (o 8) ≡ t →
+          Tells o kind (cond t (Misses 8 (o 8) SmallConnection) (cond (ltb 0 (o 9)) (Misses 9 (o 9) SmallConnection) NoFault))
       by-highest true e = let h = ltb-true 0 (o 8) e in (refl, (rw has (λ l. omega arith), before))
       by-highest false e = by-high (ltb-false 0 (o 8) e) (ltb 0 (o 9)) refl
 
@@ -99,7 +108,8 @@ module _ (o : ℕ → ℕ) (octets : (i : ℕ) → o i < 256) where
       by-policy false e = connection-tells 4 refl (omega arith) (ltb-false 1 (o 1) e) (any 2) (any 3)
 
   -- a release, with what follows where bytes 1 and 3 are named
-  release-tells : (kind : ℕ) (rest : Fault) → o 0 ≤ 9 → highestFirst kind ≡ 1 → highestSecond kind (o 1) ≡ 255 → highestThird kind (o 1) ≡ 2 → (o 1 ≤ 1 → o 3 ≤ 2 → Tells o kind rest) →
+  release-tells : (kind : ℕ) (rest : Fault) → o 0 ≤ 9 → highestFirst kind ≡ 1 → highestSecond kind (o 1) ≡ 255 →
+      highestThird kind (o 1) ≡ 2 → (o 1 ≤ 1 → o 3 ≤ 2 → Tells o kind rest) →
       Tells o kind (cond (ltb 1 (o 1)) (Misses 1 (o 1) CausePresent) (cond (ltb 2 (o 3)) (Misses 3 (o 3) CrankbackFound) rest))
   release-tells kind rest zeroth one two three then = by-present (ltb 1 (o 1)) refl
     where
@@ -107,7 +117,8 @@ module _ (o : ℕ → ℕ) (octets : (i : ℕ) → o i < 256) where
       by-back a true e = let h = ltb-true 2 (o 3) e in (refl, (λ l. omega arith, (((tt, zeroth), omega arith), omega (arith, any 2))))
       by-back a false e = then a (ltb-false 2 (o 3) e)
 
-      by-present : (t : Bool) → ltb 1 (o 1) ≡ t → Tells o kind (cond t (Misses 1 (o 1) CausePresent) (cond (ltb 2 (o 3)) (Misses 3 (o 3) CrankbackFound) rest))
+      by-present : (t : Bool) → ltb 1 (o 1) ≡ t →
+          Tells o kind (cond t (Misses 1 (o 1) CausePresent) (cond (ltb 2 (o 3)) (Misses 3 (o 3) CrankbackFound) rest))
       by-present true e = let h = ltb-true 1 (o 1) e in (refl, (λ l. omega arith, (tt, zeroth)))
       by-present false e = by-back (ltb-false 1 (o 1) e) (ltb 2 (o 3)) refl
 

@@ -1,4 +1,5 @@
--- What is claimed of a fault: that it is found exactly in a bad record, and that the byte told is the first that is not named. Proofs: proofs/Claims.antt. Assumes nothing.
+-- What is claimed of a fault: that it is found exactly in a bad record, and that the byte told is the first that is not named. Proofs:
+-- proofs/Claims.antt. Assumes nothing.
 use Prim.Native.Nat.{ℕ, _≤_, _<_}
 use mathlib.Core.Bool.{Bool, _||_, cond}
 use mathlib.Core.Logic.{_↔_}
@@ -18,22 +19,22 @@ Octets os = (i : ℕ) → octet os i < 256
 abbrev pub ExactlyTheBad : Type 0
 ExactlyTheBad = (os : List ℕ) → Octets os → (decodedOf os .request ≡ Bad) ↔ (faultOf os ≡ NoFault → ⊥)
 
--- The highest value that is named for each byte (01, "The trace"); 255 where the byte is not read, or may have any value. Of a record: its kind is byte 0, and byte 1 of an opening tells whether
--- bytes 2 and 3 are read
-abbrev pub isRelease : ℕ → Bool
-isRelease kind = eqb kind 6 || eqb kind 7
+-- The highest value that is named for each byte (01, "The trace"); 255 where the byte is not read, or may have any value. Of a record: its
+-- kind is byte 0, and byte 1 of an opening tells whether bytes 2 and 3 are read
+abbrev pub isReleaseRecord : ℕ → Bool
+isReleaseRecord kind = eqb kind 6 || eqb kind 7
 
 abbrev pub hasConnection : ℕ → Bool
 hasConnection kind = eqb kind 4 || eqb kind 7
 
 abbrev pub highestFirst : ℕ → ℕ
-highestFirst kind = cond (eqb kind 0 || (eqb kind 4 || isRelease kind)) 1 255
+highestFirst kind = cond (eqb kind 0 || (eqb kind 4 || isReleaseRecord kind)) 1 255
 
 abbrev pub highestSecond : ℕ → ℕ → ℕ
 highestSecond kind first = cond (eqb kind 0) (cond (eqb first 0) 255 1) 255
 
 abbrev pub highestThird : ℕ → ℕ → ℕ
-highestThird kind first = cond (eqb kind 0) (cond (eqb first 0) 255 2) (cond (isRelease kind) 2 255)
+highestThird kind first = cond (eqb kind 0) (cond (eqb first 0) 255 2) (cond (isReleaseRecord kind) 2 255)
 
 abbrev pub highest : ℕ → ℕ → ℕ → ℕ
 highest kind first byte =

@@ -1,10 +1,12 @@
--- What is wrong with an event record: its first byte that is not named, in the order of bytes (docs/BENCH.md, "list"; 01, "The trace"). Assumes nothing.
+-- What is wrong with an event record: its first byte that is not named, in the order of bytes (docs/BENCH.md, "list"; 01, "The trace").
+-- Assumes nothing.
 use Prim.Native.Nat.{ℕ}
 use mathlib.Core.Bool.{cond}
 use mathlib.Core.List.{List}
 use lib.Dec.{eqb, ltb}
 use Rattle.event_record.specs.Record.{octet}
-use Rattle.event_fault.specs.declared.Expected.the-variants.{SomeEvent, NamedOrNot, HardFlag, SoftService, PolicyFlag, CausePresent, CrankbackFound, SmallConnection}
+use Rattle.event_fault.specs.declared.Expected.the-variants.{SomeEvent, NamedOrNot, HardFlag, SoftService, PolicyFlag, CausePresent}
+use Rattle.event_fault.specs.declared.Expected.the-variants.{CrankbackFound, SmallConnection}
 use Rattle.event_fault.specs.declared.Fault.{Fault}
 use Rattle.event_fault.specs.declared.Fault.the-variants.{NoFault, Misses}
 
@@ -18,7 +20,8 @@ openFault named hard soft =
 
 -- bytes 8 and 9 of a connection are 0, since it is at most 65,535
 abbrev pub connectionFault : ℕ → ℕ → Fault
-connectionFault highest high = cond (ltb 0 highest) (Misses 8 highest SmallConnection) (cond (ltb 0 high) (Misses 9 high SmallConnection) NoFault)
+connectionFault highest high =
+    cond (ltb 0 highest) (Misses 8 highest SmallConnection) (cond (ltb 0 high) (Misses 9 high SmallConnection) NoFault)
 
 abbrev pub connectFault : ℕ → ℕ → ℕ → Fault
 connectFault policy highest high = cond (ltb 1 policy) (Misses 1 policy PolicyFlag) (connectionFault highest high)

@@ -3,7 +3,8 @@ use Prim.Native.Nat.{ℕ}
 use mathlib.Core.List.{List, [], _++_}
 use Rattle.lines.specs.Lines.{ascii, numberText}
 use Rattle.event_fault.specs.declared.Expected.{Expected}
-use Rattle.event_fault.specs.declared.Expected.the-variants.{SomeEvent, NamedOrNot, HardFlag, SoftService, PolicyFlag, CausePresent, CrankbackFound, SmallConnection}
+use Rattle.event_fault.specs.declared.Expected.the-variants.{SomeEvent, NamedOrNot, HardFlag, SoftService, PolicyFlag, CausePresent}
+use Rattle.event_fault.specs.declared.Expected.the-variants.{CrankbackFound, SmallConnection}
 use Rattle.event_fault.specs.declared.Fault.{Fault}
 use Rattle.event_fault.specs.declared.Fault.the-variants.{NoFault, Misses}
 
@@ -22,4 +23,5 @@ byteText byte = ascii "byte " ++ numberText byte
 
 abbrev pub faultText : Fault → List ℕ
 faultText NoFault = []
-faultText (Misses byte value expected) = byteText byte ++ (ascii " is " ++ (numberText value ++ (ascii ", expected " ++ expectedText expected)))
+faultText (Misses byte value expected) =
+    byteText byte ++ (ascii " is " ++ (numberText value ++ (ascii ", expected " ++ expectedText expected)))

@@ -1,5 +1,5 @@
-// What is wrong with an event record that is bad: the first octet that is not named, in the order of octets, and what was expected there; and that in words
-// (docs/BENCH.md, "list").
+// What is wrong with an event record that is bad: the first octet that is not named, in the order of octets, and what was expected there;
+// and that in words (docs/BENCH.md, "list").
 ghost use mathlib.Core.Path.{_≡_};
 ghost use Rattle.lines.specs.Lines.{page, putText};
 ghost use Rattle.event_fault.specs.Fault.{openFault, connectionFault, connectFault, callingFault, calledFault, kindFault, faultOf};

@@ -21,9 +21,9 @@ use Rattle.events.specs.declared.Event.{Event}
 use Rattle.events.specs.declared.Event.the-variants.{Trigger, PathFound, NoPath, Connect, Setup, FromParty, FromDomain, Ready, Expiry}
 use Rattle.events.specs.declared.Act.{Act}
 use Rattle.events.specs.declared.Act.the-variants.{Opens, Meets}
-use Rattle.event_record.specs.Record.{octet, numberOf, askedOf, openOf, connectOf, callingOf, calledOf}
+use Rattle.event_record.specs.Record.{octet, numberOf, requestOf, openOf, connectOf, callingOf, calledOf}
 use Rattle.event_record.specs.Encoded.{flagNumber, presentNumber, causeNumber, openValues, eventValues, actValues}
-use Rattle.event_record.specs.Claims.{highestFirst, EventFits, ActFits}
+use Rattle.event_record.specs.Claims.{bigEndian, EventFits, ActFits}
 use Rattle.event_record.specs.Claims as claim
 use Rattle.event_record.specs.declared.Request.{Request}
 use Rattle.event_record.specs.declared.Request.the-variants.{Bad, Asks}
@@ -57,10 +57,12 @@ by-octets n c d e p q r h =
 
 read-back-number : (n : ℕ) → n < 4294967296 → numberOf (n / 16777216 % 256) (n / 65536 % 256) (n / 256 % 256) (n % 256) ≡ n
 read-back-number n h =
-    by-octets n (n / 256) (n / 65536) (n / 16777216) refl (sym (div-div-eq-div-mul n 256 256)) (sym (div-div-eq-div-mul n 65536 256)) (omega arith)
+    by-octets n (n / 256) (n / 65536) (n / 16777216) refl (sym (div-div-eq-div-mul n 256 256)) (sym (div-div-eq-div-mul n 65536 256))
+    (omega arith)
 
 -- and so is what stands in the octets around the key
-open-back : (hard : Bool) (soft : Soft) → openOf 1 (flagNumber hard) (softNumber soft) ≡ Asks (Opens (Named (record { hard = hard; soft = soft })))
+open-back : (hard : Bool) (soft : Soft) →
+    openOf 1 (flagNumber hard) (softNumber soft) ≡ Asks (Opens (Named (record { hard = hard; soft = soft })))
 open-back true NoSoft = refl
 open-back true Asymmetric = refl
 open-back true Symmetric = refl
@@ -85,11 +87,14 @@ called-back c (WithCause n) NoCrankback h = rw (le-ltb 65535 c (omega arith))
 called-back c (WithCause n) AlternateFound h = rw (le-ltb 65535 c (omega arith))
 called-back c (WithCause n) NoAlternate h = rw (le-ltb 65535 c (omega arith))
 
-wanted-back : (w : Wanted) → askedOf (openValues w .kind) (openValues w .first) (openValues w .second) (openValues w .third) (openValues w .number) ≡ Asks (Opens w)
+wanted-back : (w : Wanted) → requestOf (openValues w .kind) (openValues w .first) (openValues w .second) (openValues w .third)
+    (openValues w .number) ≡ Asks (Opens w)
 wanted-back Unnamed = refl
 wanted-back (Named s) = open-back (s .hard) (s .soft)
 
-event-back : (e : Event) → EventFits e → askedOf (eventValues e .kind) (eventValues e .first) (eventValues e .second) (eventValues e .third) (eventValues e .number) ≡ Asks (Meets e)
+event-back : (e : Event) → EventFits e →
+    requestOf (eventValues e .kind) (eventValues e .first) (eventValues e .second) (eventValues e .third) (eventValues e .number) ≡ Asks
+    (Meets e)
 event-back Trigger f = refl
 event-back PathFound f = refl
 event-back NoPath f = refl
@@ -100,7 +105,8 @@ event-back (FromDomain c cause back) f = called-back c cause back (f .0)
 event-back Ready f = refl
 event-back Expiry f = refl
 
-act-back : (act : Act) → ActFits act → askedOf (actValues act .kind) (actValues act .first) (actValues act .second) (actValues act .third) (actValues act .number) ≡ Asks act
+act-back : (act : Act) → ActFits act → requestOf (actValues act .kind) (actValues act .first) (actValues act .second)
+    (actValues act .third) (actValues act .number) ≡ Asks act
 act-back (Opens w) f = wanted-back w
 act-back (Meets e) f = event-back e f
 
@@ -121,11 +127,13 @@ number-fits (Meets Expiry) f = omega arith
 pub read-back : claim.ReadBack
 read-back key act fits =
     let v = actValues act in
-    let request = ap (λ n. askedOf (v .kind) (v .first) (v .second) (v .third) n) (read-back-number (v .number) (number-fits act (fits .1))) ∙ act-back act (fits .1) in
+    let request =
+    ap (λ n. requestOf (v .kind) (v .first) (v .second) (v .third) n)
+    (read-back-number (v .number) (number-fits act (fits .1))) ∙ act-back act (fits .1) in
     λ i. record { key = read-back-number key (fits .0) i; request = request i }
 
 -- what the octets mean: two octets are the connection that they spell
-spelled-out : (a b c d : ℕ) → numberOf a b c d ≡ highestFirst a b c d
+spelled-out : (a b c d : ℕ) → numberOf a b c d ≡ bigEndian a b c d
 spelled-out a b c d = omega arith
 
 in-two-octets : (a b : ℕ) → numberOf 0 0 a b ≡ a * 256 + b
@@ -178,7 +186,7 @@ called-means cause s t u v a b more low-a low-b =
 other : (n k : ℕ) → k < n → eqb n k ≡ false
 other n k h = ne-eqb n k (omega arith)
 
-kind-above : (n p q r m : ℕ) → 9 < n → askedOf n p q r m ≡ Bad
+kind-above : (n p q r m : ℕ) → 9 < n → requestOf n p q r m ≡ Bad
 kind-above n p q r m h =
     simp (
       other n 0 (omega arith),

@@ -1,1 +1,3 @@
+pub mod Buffer
 pub mod Claims
+pub mod Wrong

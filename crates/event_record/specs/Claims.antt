@@ -21,12 +21,12 @@ use Rattle.event_record.specs.declared.Request.the-variants.{Bad, Asks}
 -- read. An octet that a kind does not read is any number, and what follows is any list.
 
 -- four octets as one number, big-endian
-abbrev pub highestFirst : ℕ → ℕ → ℕ → ℕ → ℕ
-highestFirst a b c d = a * 16777216 + b * 65536 + c * 256 + d
+abbrev pub bigEndian : ℕ → ℕ → ℕ → ℕ → ℕ
+bigEndian a b c d = a * 16777216 + b * 65536 + c * 256 + d
 
 -- bytes 4 to 7 are the key, in every record
 abbrev pub KeyMeans : Type 0
-KeyMeans = (kind p q r a b c d : ℕ) (more : List ℕ) → decodedOf (kind ∷ p ∷ q ∷ r ∷ a ∷ b ∷ c ∷ d ∷ more) .key ≡ highestFirst a b c d
+KeyMeans = (kind p q r a b c d : ℕ) (more : List ℕ) → decodedOf (kind ∷ p ∷ q ∷ r ∷ a ∷ b ∷ c ∷ d ∷ more) .key ≡ bigEndian a b c d
 
 -- byte 0: 1 trigger, 2 path found, 3 no path, 8 ready, 9 expiry; of these nothing else is read but the key (decision 23)
 abbrev pub OnlyKeysMean : Type 0
@@ -63,7 +63,7 @@ abbrev pub SetupMeans : Type 0
 SetupMeans =
     (code q r s t u v a b c d : ℕ) (more : List ℕ) →
     decodedOf (5 ∷ code ∷ q ∷ r ∷ s ∷ t ∷ u ∷ v ∷ a ∷ b ∷ c ∷ d ∷ more) .request
-    ≡ Asks (Meets (Setup (record { code = code }) (highestFirst a b c d)))
+    ≡ Asks (Meets (Setup (record { code = code }) (bigEndian a b c d)))
 
 -- 6 calling release: byte 1 is 0 where no cause came and 1 where one did, byte 2 its number, whatever that is; byte 3 is crankback, 0 to 2,
 -- which no row of a calling release reads
@@ -116,9 +116,11 @@ OctetsInTheirOrder =
 -- 01, "The trace": a connect or a called release with a connection number above 65,535 is bad.
 abbrev pub AboveIsBad : Type 0
 AboveIsBad =
-    (os : List ℕ) → (octet os 0 ≡ 4) ⊎ (octet os 0 ≡ 7) → 65535 < numberOf (octet os 8) (octet os 9) (octet os 10) (octet os 11) → decodedOf os .request ≡ Bad
+    (os : List ℕ) → (octet os 0 ≡ 4) ⊎ (octet os 0 ≡ 7) →
+    65535 < numberOf (octet os 8) (octet os 9) (octet os 10) (octet os 11) → decodedOf os .request ≡ Bad
 
--- the numbers of an event have a place in a record: a connection in two octets, a key and an incarnation number in four, a code and a cause in one
+-- the numbers of an event have a place in a record: a connection in two octets, a key and an incarnation number in four, a code and a cause
+-- in one
 abbrev pub CauseFits : ReceivedCause → Type 0
 CauseFits NoCause = Unit {0}
 CauseFits (WithCause c) = c .number < 256

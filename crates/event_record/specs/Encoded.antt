@@ -1,4 +1,5 @@
--- An event record of the trace, written: the octets that a kind does not use are 0 (01, "The trace"; docs/BENCH.md, "script"). Assumes nothing.
+-- An event record of the trace, written: the octets that a kind does not use are 0 (01, "The trace"; docs/BENCH.md, "script"). Assumes
+-- nothing.
 use Prim.Native.Nat.{ℕ, _/_, _%_}
 use mathlib.Core.Bool.{Bool, true, false}
 use mathlib.Core.List.{List, [], _∷_, _++_}

@@ -1,3 +1,4 @@
+pub mod Places
 pub mod Record
 pub mod Encoded
 pub mod Claims

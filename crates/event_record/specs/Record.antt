@@ -68,8 +68,8 @@ plainOf kind =
     (cond (eqb kind 9) (Asks (Meets Expiry)) Bad))))
 
 -- byte 0 is the kind; of a setup, byte 1 is the switchover code, whatever it is
-abbrev pub askedOf : ℕ → ℕ → ℕ → ℕ → ℕ → Request
-askedOf kind first second third number =
+abbrev pub requestOf : ℕ → ℕ → ℕ → ℕ → ℕ → Request
+requestOf kind first second third number =
     cond (eqb kind 0) (openOf first second third)
     (cond (eqb kind 4) (connectOf first number)
     (cond (eqb kind 5) (Asks (Meets (Setup (record { code = first }) number)))
@@ -81,5 +81,7 @@ abbrev pub decodedOf : List ℕ → Decoded
 decodedOf os =
     record {
       key = numberOf (octet os 4) (octet os 5) (octet os 6) (octet os 7);
-      request = askedOf (octet os 0) (octet os 1) (octet os 2) (octet os 3) (numberOf (octet os 8) (octet os 9) (octet os 10) (octet os 11));
+      request =
+          requestOf (octet os 0) (octet os 1) (octet os 2) (octet os 3)
+          (numberOf (octet os 8) (octet os 9) (octet os 10) (octet os 11));
     }

@@ -2,9 +2,13 @@
 //
 // Whether a value is named is seen from the octets alone; an octet that is not read never makes a record bad.
 ghost use mathlib.Core.Path.{_≡_};
-ghost use Rattle.event_record.specs.Record.{numberOf, softOf, crankbackOf, causeOf, openOf, connectOf, callingOf, calledOf, plainOf, askedOf, decodedOf};
-ghost use Rattle.event_record.specs.Encoded.{flagNumber, presentNumber, causeNumber, brought, openValues, eventValues, actValues, laidOut, recordOf};
-ghost use Prim.Native.Nat.{_%_};
+ghost use lib.ListN.{length};
+ghost use Rattle.event_record.specs.Places.{recordAt, restLength, restKept};
+ghost use Rattle.event_record.specs.Record.{numberOf, softOf, crankbackOf, causeOf, openOf, connectOf, callingOf, calledOf, plainOf};
+ghost use Rattle.event_record.specs.Record.{requestOf, decodedOf};
+ghost use Rattle.event_record.specs.Encoded.{flagNumber, presentNumber, causeNumber, brought, openValues, eventValues, actValues};
+ghost use Rattle.event_record.specs.Encoded.{laidOut, recordOf};
+ghost use Prim.Native.Nat.{_+_, _≤_, _%_};
 ghost use Rattle.signal.specs.Numbers.{crankbackNumber};
 ghost use Rattle.events.specs.declared.Event.the-variants.{FromParty, FromDomain};
 use events::Act;
@@ -165,7 +169,7 @@ fn plain(kind: u8) -> Request
 }
 
 fn asked(kind: u8, first: u8, second: u8, third: u8, number: u32) -> Request
-    ensures { λ r. ⌜ r ≡ askedOf kind first second third number ⌝ }
+    ensures { λ r. ⌜ r ≡ requestOf kind first second third number ⌝ }
 {
     if kind == 0 {
         return open(first, second, third);
@@ -339,4 +343,46 @@ pub fn encode(key: u32, act: Act) -> [u8; 16]
     ensures { λ r. ⌜ r ≡ recordOf key act ⌝ }
 {
     laid_out(key, act_values(act))
+}
+
+// The record at a place among octets that were read.
+pub fn record_at(octets: &[u8], place: usize) -> [u8; 16]
+    requires { ⌜ place + 16 ≤ length (now octets) ⌝ }
+    ensures { λ r. ⌜ r ≡ recordAt (now (octets .entry)) place ⌝ }
+{
+    [
+        octets[place],
+        octets[place + 1],
+        octets[place + 2],
+        octets[place + 3],
+        octets[place + 4],
+        octets[place + 5],
+        octets[place + 6],
+        octets[place + 7],
+        octets[place + 8],
+        octets[place + 9],
+        octets[place + 10],
+        octets[place + 11],
+        octets[place + 12],
+        octets[place + 13],
+        octets[place + 14],
+        octets[place + 15],
+    ]
+}
+
+// What stands behind the last whole record among the first octets comes to the front; how many octets that is.
+pub fn keep_rest(octets: &mut [u8], filled: usize) -> usize
+    ensures { λ r. ⌜ (r ≡ restLength (now (octets .entry)) filled) × (now (octets .exit) ≡ restKept (now (octets .entry)) filled) ⌝ }
+{
+    if octets.len() < filled {
+        return 0;
+    }
+    let kept = filled % 16;
+    let whole = filled - kept;
+    let mut index: usize = 0;
+    while index < kept {
+        octets[index] = octets[whole + index];
+        index += 1;
+    }
+    kept
 }

@@ -1,11 +1,13 @@
--- What a text that is put does to a buffer, for a reader who does not want to follow it byte by byte. Proofs: proofs/Claims.antt. Assumes nothing.
+-- What a text that is put does to a buffer, for a reader who does not want to follow it byte by byte. Proofs: proofs/Claims.antt. Assumes
+-- nothing.
 use Prim.Native.Nat.{ℕ, _+_, _≤_}
 use mathlib.Core.Path.{_≡_}
 use mathlib.Core.List.{List, _++_}
 use lib.ListN.{length, take, drop}
 use Rattle.lines.specs.Lines.{page, putText}
 
--- Where there is room for the whole text it stands in the buffer from the place on, all else is as it was, and the place behind it is answered.
+-- Where there is room for the whole text it stands in the buffer from the place on, all else is as it was, and the place behind it is
+-- answered.
 abbrev pub PutWithRoom : Type 0
 PutWithRoom =
     (buffer : List ℕ) (at : ℕ) (text : List ℕ) → at + length text ≤ length buffer →

@@ -29,7 +29,12 @@ abbrev pub ascii : String → List ℕ
 ascii no-text = []
 ascii (c then s) = code c ∷ ascii s
 
--- a number in decimal: one digit below ten, else what is left by ten and the last digit after it. No number has more digits than one more than itself
+-- the end of a line
+abbrev pub newLine : List ℕ
+newLine = 10 ∷ []
+
+-- a number in decimal: one digit below ten, else what is left by ten and the last digit after it. No number has more digits than one more
+-- than itself
 unfoldable pub spelled : ℕ → ℕ → List ℕ
 spelled zero n = []
 spelled (suc k) n = cond (ltb n 10) ((48 + n) ∷ []) (spelled k (n / 10) ++ ((48 + n % 10) ∷ []))

@@ -1,7 +1,7 @@
 // Lines for people, built in a buffer that the caller lends.
 //
-// A function that puts something takes the place to begin at, and answers the place behind it. Past the end nothing is stored and the place stays, so that no
-// function asks anything of its caller.
+// A function that puts something takes the place to begin at, and answers the place behind it. Past the end nothing is stored and the place
+// stays, so that no function asks anything of its caller.
 ghost use mathlib.Core.Path.{_≡_};
 ghost use Rattle.lines.specs.Lines.{page, putByte, putText, numberText};
 

@@ -1,8 +1,7 @@
 // Reads event records from standard input, and prints each as its line of `script` with its count (docs/BENCH.md, "list").
 //
-// `octets` takes a record out of what was read, `event_record::decode` says what it is, and `print` puts its line, or what is wrong with it, into a buffer. The rest
-// is reading and writing: all that has come is printed before more is waited for.
-mod octets;
+// `event_record` takes a record out of what was read and says what it is, and `print` puts its line, or what is wrong with it, into a
+// buffer. The rest is reading and writing: all that has come is printed before more is waited for.
 mod print;
 
 ghost use Prim.Native.Nat.{_≤_};
@@ -12,7 +11,8 @@ use libc::STDERR_FILENO;
 use libc::STDIN_FILENO;
 use libc::STDOUT_FILENO;
 
-// How far a run is: whether it goes on, the records that are listed, and the octets at the start of the buffer that are no whole record yet.
+// How far a run is: whether it goes on, the records that are listed, and the octets at the front of the buffer that are no whole record
+// yet.
 struct Progress {
     more: bool,
     listed: u64,
@@ -50,8 +50,8 @@ fn turn(input: &mut [u8], output: &mut [u8], progress: Progress) -> Progress {
         return finish(output, progress.listed, kept);
     }
     let have = kept + came;
-    let after = list_whole(input, have, output, progress.listed);
-    octets::keep(input, have / 16 * 16, have % 16);
+    let mut after = list_whole(input, have, output, progress.listed);
+    after.kept = event_record::keep_rest(input, have);
     after
 }
 
@@ -63,7 +63,7 @@ fn list_whole(input: &[u8], have: usize, output: &mut [u8], listed: u64) -> Prog
     let mut at: usize = 0;
     let mut place: usize = 0;
     while 16 <= have - place {
-        let record = octets::record(input, place);
+        let record = event_record::record_at(input, place);
         let decoded = event_record::decode(record);
         let request = decoded.request;
         count = next(count);
@@ -87,7 +87,7 @@ fn list_whole(input: &[u8], have: usize, output: &mut [u8], listed: u64) -> Prog
     Progress {
         more: true,
         listed: count,
-        kept: have - place,
+        kept: 0,
     }
 }
 

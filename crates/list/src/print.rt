@@ -1,12 +1,12 @@
 // The line of a record, and what is told of one that is bad or cut short, in a lent buffer.
 ghost use mathlib.Core.Path.{_≡_};
 ghost use Rattle.lines.specs.Lines.{page, putText};
-ghost use Rattle.list.specs.Line.{lineText, recordText, badText, shortText};
+ghost use Rattle.list.specs.Line.{listedText, recordText, badRecordText, shortRecordText};
 use event_fault::Fault;
 use events::Act;
 
 pub(crate) fn put_line(out: &mut [u8], at: usize, count: u64, key: u32, act: Act) -> usize
-    ensures { λ r. ⌜ page (now (out .exit)) r ≡ putText (page (now (out .entry)) at) (lineText count key act) ⌝ }
+    ensures { λ r. ⌜ page (now (out .exit)) r ≡ putText (page (now (out .entry)) at) (listedText count key act) ⌝ }
 {
     let named = event_words::put_event(out, at, key, act);
     let marked = lines::put_word(out, named, b"  # ");
@@ -23,7 +23,7 @@ fn put_record(out: &mut [u8], at: usize, count: u64) -> usize
 }
 
 pub(crate) fn put_bad(out: &mut [u8], at: usize, count: u64, fault: Fault) -> usize
-    ensures { λ r. ⌜ page (now (out .exit)) r ≡ putText (page (now (out .entry)) at) (badText count fault) ⌝ }
+    ensures { λ r. ⌜ page (now (out .exit)) r ≡ putText (page (now (out .entry)) at) (badRecordText count fault) ⌝ }
 {
     let named = put_record(out, at, count);
     let told = event_fault::put_fault(out, named, fault);
@@ -31,7 +31,7 @@ pub(crate) fn put_bad(out: &mut [u8], at: usize, count: u64, fault: Fault) -> us
 }
 
 pub(crate) fn put_short(out: &mut [u8], at: usize, count: u64, came: u64) -> usize
-    ensures { λ r. ⌜ page (now (out .exit)) r ≡ putText (page (now (out .entry)) at) (shortText count came) ⌝ }
+    ensures { λ r. ⌜ page (now (out .exit)) r ≡ putText (page (now (out .entry)) at) (shortRecordText count came) ⌝ }
 {
     let named = put_record(out, at, count);
     let missing = lines::put_word(out, named, b"byte ");

@@ -1,7 +1,7 @@
 // Event records from standard input, and their lines to standard output, as they come: the programs `trace` and `watch`.
 //
-// What a record does, and every byte of its line, stands in trace_run; here is reading and writing. Each read is answered before the next, so that a live feed shows at once.
-ghost use Prim.Native.Nat.{_≤_};
+// What a record does, and every byte of its line, stands in trace_run; here is reading and writing. Each read is answered before the next,
+// so that a live feed shows at once.
 ghost use mathlib.Core.Path.{_≡_};
 ghost use lib.ListN.{length};
 use call::Call;
@@ -38,23 +38,8 @@ fn show(out: &[u8], length: usize, name: &[u8]) -> bool {
     false
 }
 
-// The octets behind the last whole record, moved to the front; how many they are.
-fn keep_rest(input: &mut [u8], filled: usize) -> usize
-    requires { ⌜ filled ≤ length (now input) ⌝ }
-    ensures { λ r. ⌜ r ≤ 15 ⌝ }
-{
-    let kept = filled % 16;
-    let whole = filled - kept;
-    let mut index: usize = 0;
-    while index < kept {
-        input[index] = input[whole + index];
-        index += 1;
-    }
-    kept
-}
-
-// Until the input ends, a record is bad, or reading or writing fails. A loop has to end, and nothing says that the input does: so the turns are counted down, from a
-// number that no run uses up.
+// Until the input ends, a record is bad, or reading or writing fails. A loop has to end, and nothing says that the input does: so the turns
+// are counted down, from a number that no run uses up.
 fn follow(columns: Columns, name: &[u8], out: &mut [u8], input: &mut [u8])
     requires { ⌜ length (now input) ≡ 65536 ⌝ }
 {
@@ -81,7 +66,7 @@ fn follow(columns: Columns, name: &[u8], out: &mut [u8], input: &mut [u8])
         }
         table = ran.table;
         count = ran.count;
-        kept = keep_rest(input, filled);
+        kept = event_record::keep_rest(input, filled);
     }
 }
 

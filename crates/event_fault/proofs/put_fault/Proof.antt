@@ -9,7 +9,16 @@ returns : tie.Need-returns
 returns c = rw (c .enum-told .given .1) (sym (put-none _))
 
 returns-2 : tie.Need-returns-2
-returns-2 c = rw (c .before .before .before .before .before .before .before .before .before .before .before .before .before .before .before .before .before .before .before .before .before .before .before .fault .given .1) (and-then _ _ _ _ _ (c .before .before .before .before .before .before .before .before .before .before .before .before .before .before .before .before .before .before .before .before .put-octet .ensures) (and-then _ _ _ _ _ (c .before .before .before .before .before .before .before .before .before .before .before .before .before .before .before .put-word .ensures) (and-then _ _ _ _ _ (c .before .before .before .before .before .before .before .before .before .before .before .put-number .ensures) (and-then _ _ _ _ _ (c .before .before .before .before .before .before .put-word2 .ensures) (c .before .before .put-expected .ensures)))))
+returns-2 c =
+    rw (c .before .before .before .before .before .before .before .before .before .before .before .before .before .before .before
+    .before .before .before .before .before .before .before .before .fault .given .1)
+    (and-then _ _ _ _ _ (c .before .before .before .before .before .before .before .before .before .before .before .before .before
+    .before .before .before .before .before .before .before .put-octet .ensures)
+    (and-then _ _ _ _ _ (c .before .before .before .before .before .before .before .before .before .before .before .before .before
+    .before .before .put-word .ensures) (and-then _ _ _ _ _
+    (c .before .before .before .before .before .before .before .before .before .before .before .put-number .ensures)
+    (and-then _ _ _ _ _ (c .before .before .before .before .before .before .put-word2 .ensures)
+    (c .before .before .put-expected .ensures)))))
 
 pub put-fault-spec : {M : Type 1} → statement M
 put-fault-spec =

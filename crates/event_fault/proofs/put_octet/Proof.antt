@@ -5,7 +5,8 @@ use Rattle.event_fault.proofs.put_octet.Statement.{statement}
 use Rattle.event_fault.proofs.put_octet.Tie as tie
 
 returns : tie.Need-returns
-returns c = and-then _ _ _ _ _ (c .before .before .before .before .before .before .put-word .ensures) (c .before .before .put-number .ensures)
+returns c =
+    and-then _ _ _ _ _ (c .before .before .before .before .before .before .put-word .ensures) (c .before .before .put-number .ensures)
 
 pub put-octet-spec : {M : Type 1} → statement M
 put-octet-spec =

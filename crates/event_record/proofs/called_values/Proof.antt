@@ -4,7 +4,13 @@ use Rattle.event_record.proofs.called_values.Statement.{statement}
 use Rattle.event_record.proofs.called_values.Tie as tie
 
 returns : tie.Need-returns
-returns c = simp (c .brought .ensures, c .before .crankback-number .ensures, c .before .before .cause-number .ensures, c .before .before .before .present-number .ensures)
+returns c =
+    simp (
+      c .brought .ensures,
+      c .before .crankback-number .ensures,
+      c .before .before .cause-number .ensures,
+      c .before .before .before .present-number .ensures,
+    )
 
 pub called-values-spec : {M : Type 1} → statement M
 called-values-spec =

@@ -7,7 +7,13 @@ returns : tie.Need-returns
 returns c = simp (c .brought .ensures, c .before .enum-told .given .1)
 
 returns-2 : tie.Need-returns-2
-returns-2 c = simp (c .brought2 .ensures, c .before .number .ensures, c .before .before .flag-number .ensures, c .before .before .before .before .wanted .given .1)
+returns-2 c =
+    simp (
+      c .brought2 .ensures,
+      c .before .number .ensures,
+      c .before .before .flag-number .ensures,
+      c .before .before .before .before .wanted .given .1,
+    )
 
 pub open-values-spec : {M : Type 1} → statement M
 open-values-spec =

@@ -5,7 +5,10 @@ use Rattle.list.proofs.print.put_bad.Statement.{statement}
 use Rattle.list.proofs.print.put_bad.Tie as tie
 
 returns : tie.Need-returns
-returns c = and-then _ _ _ _ _ (c .before .before .before .before .before .before .before .before .before .before .before .put-record .ensures) (and-then _ _ _ _ _ (c .before .before .before .before .before .before .before .put-fault .ensures) (c .before .before .put-word .ensures))
+returns c =
+    and-then _ _ _ _ _ (c .before .before .before .before .before .before .before .before .before .before .before .put-record .ensures)
+    (and-then _ _ _ _ _ (c .before .before .before .before .before .before .before .put-fault .ensures)
+    (c .before .before .put-word .ensures))
 
 pub put-bad-spec : {M : Type 1} → statement M
 put-bad-spec =

@@ -5,7 +5,14 @@ use Rattle.list.proofs.print.put_short.Statement.{statement}
 use Rattle.list.proofs.print.put_short.Tie as tie
 
 returns : tie.Need-returns
-returns c = and-then _ _ _ _ _ (c .before .before .before .before .before .before .before .before .before .before .before .before .before .before .before .before .before .before .before .before .before .put-record .ensures) (and-then _ _ _ _ _ (c .before .before .before .before .before .before .before .before .before .before .before .before .before .before .before .before .put-word .ensures) (and-then _ _ _ _ _ (c .before .before .before .before .before .before .before .before .before .before .before .before .put-number .ensures) (and-then _ _ _ _ _ (c .before .before .before .before .before .before .before .put-word2 .ensures) (c .before .before .put-word3 .ensures))))
+returns c =
+    and-then _ _ _ _ _ (c .before .before .before .before .before .before .before .before .before .before .before .before .before
+    .before .before .before .before .before .before .before .before .put-record .ensures)
+    (and-then _ _ _ _ _ (c .before .before .before .before .before .before .before .before .before .before .before .before .before
+    .before .before .before .put-word .ensures)
+    (and-then _ _ _ _ _ (c .before .before .before .before .before .before .before .before .before .before .before .before .put-number
+    .ensures) (and-then _ _ _ _ _ (c .before .before .before .before .before .before .before .put-word2 .ensures)
+    (c .before .before .put-word3 .ensures))))
 
 pub put-short-spec : {M : Type 1} → statement M
 put-short-spec =

@@ -1,17 +1,20 @@
--- `record` meets its contract. Assumes nothing.
+-- `record_at` meets its contract. Assumes nothing.
 use mathlib.Core.Path.{sym}
 use borrow.Author.Needs.{needs}
-use Rattle.list.proofs.Buffer.{from-place}
-use Rattle.list.proofs.octets.record.Statement.{statement}
-use Rattle.list.proofs.octets.record.Tie as tie
+use Rattle.event_record.specs.Places.{recordAt}
+use Rattle.event_record.proofs.Buffer.{from-place}
+use Rattle.event_record.proofs.record_at.Statement.{statement}
+use Rattle.event_record.proofs.record_at.Tie as tie
 
 returns : tie.Need-returns
+unfolding recordAt
 returns c =
-    let start = c .before .before .before .before .before .before .before .before .before .before .before .before .before .before .before .before in
-    sym (from-place (start .args .input .now) (start .args .place) 15 (search needs))
+    let half = c .before .before .before .before .before .before .before .before in
+    let start = half .before .before .before .before .before .before .before .before in
+    sym (from-place (start .args .octets .now) (start .args .place) 15 (search needs))
 
-pub record-spec : {M : Type 1} → statement M
-record-spec =
+pub record-at-spec : {M : Type 1} → statement M
+record-at-spec =
     tie.close
     (tie.spec
     (λ c. search needs)
