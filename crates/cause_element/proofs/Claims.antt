@@ -8,7 +8,8 @@ use mathlib.Core.Logic.{_⊎_, inl, inr}
 use lib.ListN.{length, take, length-append}
 use lib.Seq.{take-append-seam}
 use Rattle.signal.specs.declared.Kind.{Kind}
-use Rattle.signal.specs.declared.Kind.the-variants.{NoSignal, TimerStart, TimerStop, Switch, CallingRelease, IncumbentRelease, ReroutingRelease, SetupRequest, ConnectRequest, Rejection}
+use Rattle.signal.specs.declared.Kind.the-variants.{NoSignal, TimerStart, TimerStop, Switch, CallingRelease, IncumbentRelease}
+use Rattle.signal.specs.declared.Kind.the-variants.{ReroutingRelease, SetupRequest, ConnectRequest, Rejection}
 use Rattle.signal.specs.declared.SentCause.{SentCause}
 use Rattle.signal.specs.declared.SentCause.the-variants.{Absent}
 use Rattle.cause_element.specs.declared.Names.{Names}
@@ -38,7 +39,7 @@ too-short-is-nothing a b high low content h =
     sym (cut (a ∷ b ∷ high ∷ low ∷ content) _ (omega arith) refl (omega arith))
 
 -- what a signal names, by its kind
-named-release : (k : Kind) (cause : SentCause) → claim.isRelease k ≡ true → namedByKind k cause ≡ namedByCause cause
+named-release : (k : Kind) (cause : SentCause) → claim.isReleaseKind k ≡ true → namedByKind k cause ≡ namedByCause cause
 named-release NoSignal cause h = absurd (false≢true h)
 named-release TimerStart cause h = absurd (false≢true h)
 named-release TimerStop cause h = absurd (false≢true h)
@@ -50,10 +51,10 @@ named-release SetupRequest cause h = absurd (false≢true h)
 named-release ConnectRequest cause h = absurd (false≢true h)
 named-release Rejection cause h = absurd (false≢true h)
 
-named-other : (k : Kind) (cause : SentCause) → (claim.isRelease k ≡ false) ⊎ (cause ≡ Absent) → namedByKind k cause ≡ Neither
+named-other : (k : Kind) (cause : SentCause) → (claim.isReleaseKind k ≡ false) ⊎ (cause ≡ Absent) → namedByKind k cause ≡ Neither
 named-other k cause (inl other) = by-kind k other
   where
-    by-kind : (k : Kind) → claim.isRelease k ≡ false → namedByKind k cause ≡ Neither
+    by-kind : (k : Kind) → claim.isReleaseKind k ≡ false → namedByKind k cause ≡ Neither
     by-kind NoSignal h = refl
     by-kind TimerStart h = refl
     by-kind TimerStop h = refl
@@ -79,11 +80,14 @@ named-other k cause (inr absent) = by-kind k
     by-kind Rejection = refl
 
 pub sends-the-named : claim.SendsTheNamed
-sends-the-named received own s release c =
-    (λ e. ap part (named-release (s .kind) (s .cause) release ∙ ap namedByCause e), λ e. ap part (named-release (s .kind) (s .cause) release ∙ ap namedByCause e))
+sends-the-named received own s release c = (
+  λ e. ap part (named-release (s .kind) (s .cause) release ∙ ap namedByCause e),
+  λ e. ap part (named-release (s .kind) (s .cause) release ∙ ap namedByCause e),
+)
   where
     part : Names → List ℕ
     part string = take (countBy string received own) (pickedBy string received own)
 
 pub else-nothing : claim.ElseNothing
-else-nothing received own s other = ap (λ (string : Names). take (countBy string received own) (pickedBy string received own)) (named-other (s .kind) (s .cause) other)
+else-nothing received own s other =
+    ap (λ (string : Names). take (countBy string received own) (pickedBy string received own)) (named-other (s .kind) (s .cause) other)

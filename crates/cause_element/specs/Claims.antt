@@ -1,4 +1,5 @@
--- The claims on the element that is sent on. That both strings stay as they were is what a shared reference says: they are lent to be read. Proofs: proofs/Claims.antt. Assumes nothing.
+-- The claims on the element that is sent on. That both strings stay as they were is what a shared reference says: they are lent to be read.
+-- Proofs: proofs/Claims.antt. Assumes nothing.
 use Prim.Native.Nat.{ℕ, _+_, _*_, _≤_}
 use mathlib.Core.Path.{_≡_}
 use mathlib.Core.Bool.{Bool, true, false, _&&_}
@@ -29,16 +30,16 @@ TooShortIsNothing =
     (a b high low : ℕ) (content : List ℕ) → length content + 1 ≤ high * 256 + low → elementLength (a ∷ b ∷ high ∷ low ∷ content) ≡ 0
 
 -- the three kinds of release
-abbrev pub isRelease : Kind → Bool
-isRelease k = leb 4 (kindNumber k) && leb (kindNumber k) 6
+abbrev pub isReleaseKind : Kind → Bool
+isReleaseKind k = leb 4 (kindNumber k) && leb (kindNumber k) 6
 
 -- The same place: a release with a cause as received sends on the received string's element, and one with a cause by number the node's own.
 abbrev pub SendsTheNamed : Type 0
 SendsTheNamed =
-    (received own : List ℕ) (s : Signal) → isRelease (s .kind) ≡ true → (c : ReroutingCause) →
+    (received own : List ℕ) (s : Signal) → isReleaseKind (s .kind) ≡ true → (c : ReroutingCause) →
     (s .cause ≡ AsReceived c → elementOf received own s ≡ take (elementLength received) received)
     × (s .cause ≡ Numbered c → elementOf received own s ≡ take (elementLength own) own)
 
 -- The same place: without a cause, and for a signal that is no release, nothing is sent; a reject is no release here.
 abbrev pub ElseNothing : Type 0
-ElseNothing = (received own : List ℕ) (s : Signal) → (isRelease (s .kind) ≡ false) ⊎ (s .cause ≡ Absent) → elementOf received own s ≡ []
+ElseNothing = (received own : List ℕ) (s : Signal) → (isReleaseKind (s .kind) ≡ false) ⊎ (s .cause ≡ Absent) → elementOf received own s ≡ []

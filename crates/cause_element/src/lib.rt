@@ -1,4 +1,5 @@
-// The Rerouting cause element to send with a release (01, "The cause element sent on"): a part of the string that the signal names, never a copy.
+// The Rerouting cause element to send with a release (01, "The cause element sent on"): a part of the string that the signal names, never a
+// copy.
 ghost use mathlib.Core.Path.{_≡_};
 ghost use Rattle.cause_element.specs.Element.{namedByCause, namedBy, wholeOf, elementLength, elementOf, stringOf};
 use signal::Kind;
@@ -49,7 +50,8 @@ fn whole(high: u8, low: u8) -> usize
     4 + high as usize * 256 + low as usize
 }
 
-// How much of a string is its element: four octets of header, and as many more as the third and fourth say; none where it is too short for that.
+// How much of a string is its element: four octets of header, and as many more as the third and fourth say; none where it is too short for
+// that.
 fn length(string: &[u8]) -> usize
     ensures { λ r. ⌜ r ≡ elementLength (now (string .entry)) ⌝ }
 {
@@ -65,7 +67,8 @@ fn length(string: &[u8]) -> usize
 
 // The part stands where its string does: no octet is copied.
 pub fn element<'a>(received: &'a [u8], own: &'a [u8], signal: Signal) -> &'a [u8]
-    ensures { λ r. ⌜ (now r ≡ elementOf (now (received .entry)) (now (own .entry)) signal) × (r .ptr ≡ stringOf (received .entry) (own .entry) signal .ptr) ⌝ }
+    ensures { λ r. ⌜ (now r ≡ elementOf (now (received .entry)) (now (own .entry)) signal)
+        × (r .ptr ≡ stringOf (received .entry) (own .entry) signal .ptr) ⌝ }
 {
     let string = named(signal);
     match string {

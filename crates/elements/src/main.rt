@@ -20,7 +20,8 @@ fn main() {
     }
 }
 
-// Reads a case, and prints its line. False where nothing more is to be read: at the end of the input, at a case that is bad, and where a write fails.
+// Reads a case, and prints its line. False where nothing more is to be read: at the end of the input, at a case that is bad, and where a
+// write fails.
 fn answer(received: &mut [u8], own: &mut [u8]) -> bool {
     let mut head = [0u8; 5];
     let got = io::read_full(STDIN_FILENO, &mut head);

@@ -42,12 +42,12 @@ policyText true = ascii " yes"
 policyText false = ascii " no"
 
 -- the switchover code: 0 and 1 have a name
-abbrev pub codeText : ℕ → List ℕ
-codeText n = cond (eqb n 0) (ascii " immediate") (cond (eqb n 1) (ascii " clearing") (thenNumber n))
+abbrev pub switchoverText : ℕ → List ℕ
+switchoverText n = cond (eqb n 0) (ascii " immediate") (cond (eqb n 1) (ascii " clearing") (thenNumber n))
 
-abbrev pub causeText : ReceivedCause → List ℕ
-causeText NoCause = []
-causeText (WithCause c) = ascii " cause" ++ thenNumber (c .number)
+abbrev pub receivedCauseText : ReceivedCause → List ℕ
+receivedCauseText NoCause = []
+receivedCauseText (WithCause c) = ascii " cause" ++ thenNumber (c .number)
 
 abbrev pub crankbackText : Crankback → List ℕ
 crankbackText NoCrankback = []
@@ -75,9 +75,9 @@ valuesText Trigger = []
 valuesText PathFound = []
 valuesText NoPath = []
 valuesText (Connect c policy) = thenNumber c ++ policyText policy
-valuesText (Setup s n) = codeText (s .code) ++ thenNumber n
-valuesText (FromParty cause) = causeText cause
-valuesText (FromDomain c cause back) = thenNumber c ++ (causeText cause ++ crankbackText back)
+valuesText (Setup s n) = switchoverText (s .code) ++ thenNumber n
+valuesText (FromParty cause) = receivedCauseText cause
+valuesText (FromDomain c cause back) = thenNumber c ++ (receivedCauseText cause ++ crankbackText back)
 valuesText Ready = []
 valuesText Expiry = []
 
@@ -85,9 +85,9 @@ valuesText Expiry = []
 abbrev pub keylessText : Event → List ℕ
 keylessText e = eventName e ++ valuesText e
 
-abbrev pub restText : Act → List ℕ
-restText (Opens w) = wantedText w
-restText (Meets e) = valuesText e
+abbrev pub broughtText : Act → List ℕ
+broughtText (Opens w) = wantedText w
+broughtText (Meets e) = valuesText e
 
 abbrev pub eventText : ℕ → Act → List ℕ
-eventText key act = nameText act ++ (thenNumber key ++ restText act)
+eventText key act = nameText act ++ (thenNumber key ++ broughtText act)

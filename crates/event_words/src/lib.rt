@@ -1,9 +1,11 @@
-// An event in words: with its key, as a line of `script` has them, for instance `setup 7 clearing 3` (docs/BENCH.md), or without (docs/CELLS.md).
+// An event in words: with its key, as a line of `script` has them, for instance `setup 7 clearing 3` (docs/BENCH.md), or without
+// (docs/CELLS.md).
 //
 // Each function puts what it is named after into a lent buffer, from a place on, and answers the place behind it (crate lines).
 ghost use mathlib.Core.Path.{_≡_};
 ghost use Rattle.lines.specs.Lines.{page, putText};
-ghost use Rattle.event_words.specs.Words.{thenNumber, hardText, softText, wantedText, policyText, codeText, causeText, crankbackText, eventName, nameText, valuesText, keylessText, restText, eventText};
+ghost use Rattle.event_words.specs.Words.{thenNumber, hardText, softText, wantedText, policyText, switchoverText, receivedCauseText};
+ghost use Rattle.event_words.specs.Words.{crankbackText, eventName, nameText, valuesText, keylessText, broughtText, eventText};
 ghost use Rattle.events.specs.declared.Event.the-variants.{Connect, Setup, FromDomain};
 use events::Act;
 use events::Event;
@@ -62,8 +64,8 @@ fn put_policy(out: &mut [u8], at: usize, policy: bool) -> usize
     lines::put_word(out, at, b" no")
 }
 
-fn put_code(out: &mut [u8], at: usize, code: u8) -> usize
-    ensures { λ r. ⌜ page (now (out .exit)) r ≡ putText (page (now (out .entry)) at) (codeText code) ⌝ }
+fn put_switchover(out: &mut [u8], at: usize, code: u8) -> usize
+    ensures { λ r. ⌜ page (now (out .exit)) r ≡ putText (page (now (out .entry)) at) (switchoverText code) ⌝ }
 {
     if code == 0 {
         return lines::put_word(out, at, b" immediate");
@@ -75,7 +77,7 @@ fn put_code(out: &mut [u8], at: usize, code: u8) -> usize
 }
 
 fn put_cause(out: &mut [u8], at: usize, cause: ReceivedCause) -> usize
-    ensures { λ r. ⌜ page (now (out .exit)) r ≡ putText (page (now (out .entry)) at) (causeText cause) ⌝ }
+    ensures { λ r. ⌜ page (now (out .exit)) r ≡ putText (page (now (out .entry)) at) (receivedCauseText cause) ⌝ }
 {
     match cause {
         ReceivedCause::NoCause => at,
@@ -131,7 +133,7 @@ fn put_connect(out: &mut [u8], at: usize, connection: u16, policy: bool) -> usiz
 fn put_setup(out: &mut [u8], at: usize, switchover: Switchover, number: u32) -> usize
     ensures { λ r. ⌜ page (now (out .exit)) r ≡ putText (page (now (out .entry)) at) (valuesText (Setup switchover number)) ⌝ }
 {
-    let place = put_code(out, at, switchover.code);
+    let place = put_switchover(out, at, switchover.code);
     put_then(out, place, number as u64)
 }
 
@@ -173,8 +175,8 @@ pub fn put_keyless(out: &mut [u8], at: usize, event: Event) -> usize
     put_values(out, named, event)
 }
 
-fn put_rest(out: &mut [u8], at: usize, act: Act) -> usize
-    ensures { λ r. ⌜ page (now (out .exit)) r ≡ putText (page (now (out .entry)) at) (restText act) ⌝ }
+fn put_brought(out: &mut [u8], at: usize, act: Act) -> usize
+    ensures { λ r. ⌜ page (now (out .exit)) r ≡ putText (page (now (out .entry)) at) (broughtText act) ⌝ }
 {
     match act {
         Act::Opens(wanted) => put_wanted(out, at, wanted),
@@ -188,5 +190,5 @@ pub fn put_event(out: &mut [u8], at: usize, key: u32, act: Act) -> usize
 {
     let named = put_name(out, at, act);
     let keyed = put_then(out, named, key as u64);
-    put_rest(out, keyed, act)
+    put_brought(out, keyed, act)
 }

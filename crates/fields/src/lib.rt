@@ -1,7 +1,7 @@
 // Numbers in decimal, each with the byte that ends it, put into a lent buffer at speed.
 //
-// What is put is what crates/lines puts, and the contract says it in the same words. Where there is room for the longest number its digits are stored at their places, the
-// last first; near the end of the buffer they go byte by byte.
+// What is put is what crates/lines puts, and the contract says it in the same words. Where there is room for the longest number its digits
+// are stored at their places, the last first; near the end of the buffer they go byte by byte.
 ghost use Prim.Native.Nat.{_+_, _≤_};
 ghost use mathlib.Core.Path.{_≡_};
 ghost use mathlib.Core.List.{_++_, _∷_, []};

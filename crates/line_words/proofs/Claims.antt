@@ -13,7 +13,8 @@ module _ (test : ℕ → Bool) (b : ℕ) (more : List ℕ) (stops : test b ≡ f
   front-ends [] = rw stops
   front-ends (x ∷ xs) = by-test (test x) (front-ends xs)
     where
-      by-test : (t : Bool) → front test (xs ++ (b ∷ more)) ≡ front test xs → cond t (x ∷ front test (xs ++ (b ∷ more))) [] ≡ cond t (x ∷ front test xs) []
+      by-test : (t : Bool) → front test (xs ++ (b ∷ more)) ≡ front test xs →
+          cond t (x ∷ front test (xs ++ (b ∷ more))) [] ≡ cond t (x ∷ front test xs) []
       by-test true rest = ap (λ l. x ∷ l) rest
       by-test false rest = refl
 
@@ -21,7 +22,8 @@ module _ (test : ℕ → Bool) (b : ℕ) (more : List ℕ) (stops : test b ≡ f
   past-keeps [] = rw stops
   past-keeps (x ∷ xs) = by-test (test x) (past-keeps xs)
     where
-      by-test : (t : Bool) → past test (xs ++ (b ∷ more)) ≡ past test xs ++ (b ∷ more) → cond t (past test (xs ++ (b ∷ more))) (x ∷ (xs ++ (b ∷ more))) ≡ cond t (past test xs) (x ∷ xs) ++ (b ∷ more)
+      by-test : (t : Bool) → past test (xs ++ (b ∷ more)) ≡ past test xs ++ (b ∷ more) →
+          cond t (past test (xs ++ (b ∷ more))) (x ∷ (xs ++ (b ∷ more))) ≡ cond t (past test xs) (x ∷ xs) ++ (b ∷ more)
       by-test true rest = rest
       by-test false rest = refl
 
@@ -37,12 +39,15 @@ module _ (b : ℕ) (blank : isBlank b ≡ true) where
   ends-word : isOfWord b ≡ false
   ends-word = rw blank
 
-  past-blanks : (l : List ℕ) → (past isBlank (l ++ (b ∷ [])) ≡ past isBlank l ++ (b ∷ [])) ⊎ ((past isBlank (l ++ (b ∷ [])) ≡ []) × (past isBlank l ≡ []))
+  past-blanks : (l : List ℕ) → (past isBlank (l ++ (b ∷ [])) ≡ past isBlank l ++ (b ∷ [])) ⊎
+      ((past isBlank (l ++ (b ∷ [])) ≡ []) × (past isBlank l ≡ []))
   past-blanks [] = inr (rw blank, refl)
   past-blanks (x ∷ xs) = by-test (isBlank x) (past-blanks xs)
     where
-      by-test : (t : Bool) → (past isBlank (xs ++ (b ∷ [])) ≡ past isBlank xs ++ (b ∷ [])) ⊎ ((past isBlank (xs ++ (b ∷ [])) ≡ []) × (past isBlank xs ≡ [])) →
-          (cond t (past isBlank (xs ++ (b ∷ []))) (x ∷ (xs ++ (b ∷ []))) ≡ cond t (past isBlank xs) (x ∷ xs) ++ (b ∷ [])) ⊎ ((cond t (past isBlank (xs ++ (b ∷ []))) (x ∷ (xs ++ (b ∷ []))) ≡ []) × (cond t (past isBlank xs) (x ∷ xs) ≡ []))
+      by-test : (t : Bool) → (past isBlank (xs ++ (b ∷ [])) ≡ past isBlank xs ++ (b ∷ [])) ⊎
+          ((past isBlank (xs ++ (b ∷ [])) ≡ []) × (past isBlank xs ≡ [])) →
+          (cond t (past isBlank (xs ++ (b ∷ []))) (x ∷ (xs ++ (b ∷ []))) ≡ cond t (past isBlank xs) (x ∷ xs) ++ (b ∷ [])) ⊎
+          ((cond t (past isBlank (xs ++ (b ∷ []))) (x ∷ (xs ++ (b ∷ []))) ≡ []) × (cond t (past isBlank xs) (x ∷ xs) ≡ []))
       by-test true rest = rest
       by-test false rest = inl refl
 

@@ -14,9 +14,9 @@ allDigits [] = true
 allDigits (b ∷ bs) = cond (isDigit b) (allDigits bs) false
 
 -- one digit at least
-abbrev pub isNumber : List ℕ → Bool
-isNumber [] = false
-isNumber (b ∷ bs) = allDigits (b ∷ bs)
+abbrev pub isDecimal : List ℕ → Bool
+isDecimal [] = false
+isDecimal (b ∷ bs) = allDigits (b ∷ bs)
 
 -- what digits behind a number make of it
 abbrev pub valueFrom : ℕ → List ℕ → ℕ
@@ -27,5 +27,5 @@ abbrev pub valueOf : List ℕ → ℕ
 valueOf word = valueFrom 0 word
 
 -- digits alone, leading zeros among them, and at most the limit
-unfoldable pub numberIn : ℕ → List ℕ → Reading
-numberIn limit word = cond (isNumber word) (cond (leb (valueOf word) limit) (Counts (valueOf word)) NoNumber) NoNumber
+unfoldable pub numberUpTo : ℕ → List ℕ → Reading
+numberUpTo limit word = cond (isDecimal word) (cond (leb (valueOf word) limit) (Counts (valueOf word)) NoNumber) NoNumber

@@ -31,11 +31,11 @@ unfoldable pub afterWord : List ℕ → List ℕ
 afterWord rest = past isOfWord (past isBlank rest)
 
 -- the place in a line at which so much of it is left
-abbrev pub placeOf : List ℕ → List ℕ → ℕ
-placeOf line rest = length line - length rest
+abbrev pub placeBefore : List ℕ → List ℕ → ℕ
+placeBefore line rest = length line - length rest
 
 abbrev pub placeAfter : List ℕ → ℕ → ℕ
-placeAfter line at = placeOf line (afterWord (drop at line))
+placeAfter line at = placeBefore line (afterWord (drop at line))
 
 -- octet by octet
 abbrev pub sameText : List ℕ → List ℕ → Bool

@@ -1,10 +1,11 @@
 // The words of a line, and numbers in decimal (docs/BENCH.md, "script").
 //
-// A line is octets without their newline. Blanks part its words, and `#` starts a comment. A function takes the place from which the next word is sought; past the end there is none.
+// A line is octets without their newline. Blanks part its words, and `#` starts a comment. A function takes the place from which the next
+// word is sought; past the end there is none.
 ghost use mathlib.Core.Path.{_≡_};
 ghost use lib.ListN.{drop};
-ghost use Rattle.line_words.specs.Words.{isBlank, isOfWord, past, firstWord, sameText, placeAfter, placeOf};
-ghost use Rattle.line_words.specs.Numbers.{isDigit, numberIn};
+ghost use Rattle.line_words.specs.Words.{isBlank, isOfWord, past, firstWord, sameText, placeAfter, placeBefore};
+ghost use Rattle.line_words.specs.Numbers.{isDigit, numberUpTo};
 
 // What a word says as a number.
 pub enum Reading {
@@ -35,7 +36,7 @@ fn of_word(octet: u8) -> bool
 
 // The place behind the blanks.
 fn begin(line: &[u8], at: usize) -> usize
-    ensures { λ r. ⌜ r ≡ placeOf (now (line .entry)) (past isBlank (drop at (now (line .entry)))) ⌝ }
+    ensures { λ r. ⌜ r ≡ placeBefore (now (line .entry)) (past isBlank (drop at (now (line .entry)))) ⌝ }
 {
     let mut place = at;
     while place < line.len() {
@@ -49,7 +50,7 @@ fn begin(line: &[u8], at: usize) -> usize
 
 // The place behind a word that stands here.
 fn finish(line: &[u8], at: usize) -> usize
-    ensures { λ r. ⌜ r ≡ placeOf (now (line .entry)) (past isOfWord (drop at (now (line .entry)))) ⌝ }
+    ensures { λ r. ⌜ r ≡ placeBefore (now (line .entry)) (past isOfWord (drop at (now (line .entry)))) ⌝ }
 {
     let mut place = at;
     while place < line.len() {
@@ -117,7 +118,7 @@ fn wide(octet: u8) -> u64
 
 // A number above the limit stays above it with every digit more.
 fn value(word: &[u8], limit: u32) -> Reading
-    ensures { λ r. ⌜ r ≡ numberIn limit (now (word .entry)) ⌝ }
+    ensures { λ r. ⌜ r ≡ numberUpTo limit (now (word .entry)) ⌝ }
 {
     if word.len() == 0 {
         return Reading::NoNumber;
@@ -141,7 +142,7 @@ fn value(word: &[u8], limit: u32) -> Reading
 
 // The next word as a number, from 0 to the limit.
 pub fn number(line: &[u8], at: usize, limit: u32) -> Reading
-    ensures { λ r. ⌜ r ≡ numberIn limit (firstWord (drop at (now (line .entry)))) ⌝ }
+    ensures { λ r. ⌜ r ≡ numberUpTo limit (firstWord (drop at (now (line .entry)))) ⌝ }
 {
     value(word(line, at), limit)
 }

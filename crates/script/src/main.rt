@@ -1,6 +1,7 @@
 // Reads lines from standard input, an event each, and writes their records (docs/BENCH.md, "script").
 //
-// `script_line::parse` reads a line and `event_record::encode` makes its record; the rest is reading and writing. Of a line its octets in front of a comment are kept, 4,096 at most.
+// `script_line::parse` reads a line and `event_record::encode` makes its record; the rest is reading and writing. Of a line its octets in
+// front of a comment are kept, 4,096 at most.
 mod print;
 
 use libc::STDIN_FILENO;

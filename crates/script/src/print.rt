@@ -2,7 +2,7 @@
 ghost use mathlib.Core.Path.{_≡_};
 ghost use lib.ListN.{take};
 ghost use Rattle.lines.specs.Lines.{page, putText};
-ghost use Rattle.script.specs.Complaint.{lineText, expectedText, tooLongText};
+ghost use Rattle.script.specs.Complaint.{complaintStart, complaintText, tooLongText};
 use libc::STDERR_FILENO;
 use libc::STDOUT_FILENO;
 use lines::put_number;
@@ -58,7 +58,7 @@ pub(crate) fn expected(records: &[u8], number: u64, what: What) {
 }
 
 fn put_line(out: &mut [u8], at: usize, number: u64) -> usize
-    ensures { λ r. ⌜ page (now (out .exit)) r ≡ putText (page (now (out .entry)) at) (lineText number) ⌝ }
+    ensures { λ r. ⌜ page (now (out .exit)) r ≡ putText (page (now (out .entry)) at) (complaintStart number) ⌝ }
 {
     let named = put_word(out, at, b"script: line ");
     let numbered = put_number(out, named, number);
@@ -66,7 +66,7 @@ fn put_line(out: &mut [u8], at: usize, number: u64) -> usize
 }
 
 fn put_expected(out: &mut [u8], at: usize, number: u64, what: What) -> usize
-    ensures { λ r. ⌜ page (now (out .exit)) r ≡ putText (page (now (out .entry)) at) (expectedText number what) ⌝ }
+    ensures { λ r. ⌜ page (now (out .exit)) r ≡ putText (page (now (out .entry)) at) (complaintText number what) ⌝ }
 {
     let named = put_line(out, at, number);
     let told = put_what(out, named, what);

@@ -9,7 +9,7 @@ use lib.Dec.{eqb}
 use borrow.Author.Tests.{eqb-true}
 use Rattle.lines.specs.Lines.{ascii}
 use Rattle.line_words.specs.Words.{firstWord, afterWord}
-use Rattle.line_words.specs.Numbers.{numberIn}
+use Rattle.line_words.specs.Numbers.{numberUpTo}
 use Rattle.line_words.proofs.Claims.{comment-is-no-word, blank-behind-is-no-word}
 use Rattle.signal.specs.declared.Crankback.{Crankback}
 use Rattle.signal.specs.declared.Crankback.the-variants.{NoCrankback, AlternateFound, NoAlternate}
@@ -25,14 +25,18 @@ use Rattle.events.specs.declared.Act.{Act}
 use Rattle.events.specs.declared.Act.the-variants.{Opens, Meets}
 use Rattle.event_record.specs.Claims.{Fits, CauseFits}
 use Rattle.event_record.proofs.Claims.{read-back}
-use Rattle.event_words.specs.Words.{thenNumber, hardText, softText, wantedText, policyText, codeText, causeText, crankbackText, valuesText, restText, eventText}
+use Rattle.event_words.specs.Words.{thenNumber, hardText, softText, wantedText, policyText, switchoverText, receivedCauseText}
+use Rattle.event_words.specs.Words.{crankbackText, valuesText, broughtText, eventText}
 use Rattle.script_words.specs.declared.What.{What}
 use Rattle.script_words.specs.declared.What.the-variants.{AKey, AConnection, AnIncarnation, ACause, CauseCrankbackOrEnd, CrankbackOrEnd}
 use Rattle.script_line.specs.declared.Name.{Name}
-use Rattle.script_line.specs.declared.Name.the-variants.{OpenName, TriggerName, PathName, NoPathName, ConnectName, SetupName, CallingName, CalledName, ReadyName, ExpiryName}
+use Rattle.script_line.specs.declared.Name.the-variants.{OpenName, TriggerName, PathName, NoPathName, ConnectName, SetupName}
+use Rattle.script_line.specs.declared.Name.the-variants.{CallingName, CalledName, ReadyName, ExpiryName}
 use Rattle.script_line.specs.declared.Parsed.{Parsed}
 use Rattle.script_line.specs.declared.Parsed.the-variants.{Told}
-use Rattle.script_line.specs.Script.{plainName, fullName, nameOf, endOf, softOf, openOf, policyOf, withNumber, connectOf, codeOf, incarnationOf, setupOf, callingCauseOf, callingOf, crankbackOf, calledCauseOf, releaseOf, calledOf, argumentsOf, keyedOf, parsedOf}
+use Rattle.script_line.specs.Script.{plainName, fullName, nameOf, readEnd, readSoft, readOpen, readPolicy, withNumber, readConnect}
+use Rattle.script_line.specs.Script.{readCode, readIncarnation, readSetup, readCallingCause, readCalling, readCrankback}
+use Rattle.script_line.specs.Script.{readCalledCause, readRelease, readCalled, readArguments, readKeyed, parsedOf}
 use Rattle.script_line.specs.Claims as claim
 use Rattle.script_line.proofs.Fits.{Sound, fits-of, parsed-sound}
 use Rattle.script_line.proofs.Tails.{parsed-same}
@@ -44,11 +48,11 @@ crankback-parted NoCrankback = tt
 crankback-parted AlternateFound = refl
 crankback-parted NoAlternate = refl
 
-cause-parted : (cause : ReceivedCause) (back : Crankback) → Parted (causeText cause ++ crankbackText back)
+cause-parted : (cause : ReceivedCause) (back : Crankback) → Parted (receivedCauseText cause ++ crankbackText back)
 cause-parted NoCause back = crankback-parted back
 cause-parted (WithCause c) back = refl
 
-code-parted : (n : ℕ) (tail : List ℕ) → Parted (codeText n ++ tail)
+code-parted : (n : ℕ) (tail : List ℕ) → Parted (switchoverText n ++ tail)
 code-parted n tail = by-tests (eqb n 0) (eqb n 1)
   where
     by-tests : (t u : Bool) → Parted (cond t (ascii " immediate") (cond u (ascii " clearing") (thenNumber n)) ++ tail)
@@ -72,22 +76,24 @@ hard-parted : (hard : Bool) (tail : List ℕ) → Parted (hardText hard ++ tail)
 hard-parted true tail = refl
 hard-parted false tail = refl
 
-parted : (act : Act) → Parted (restText act)
+parted : (act : Act) → Parted (broughtText act)
 parted (Opens Unnamed) = tt
 parted (Opens (Named s)) = hard-parted (s .hard) (softText (s .soft))
 parted (Meets e) = event-parted e
 
 -- a number that fits is read, and what is to come follows it
 reads : (limit n : ℕ) (what : What) (tail : List ℕ) (further : ℕ → List ℕ → Parsed) → n ≤ limit → Parted tail →
-    withNumber (numberIn limit (firstWord (thenNumber n ++ tail))) what (λ m. further m (afterWord (thenNumber n ++ tail))) ≡ further n tail
+    withNumber (numberUpTo limit (firstWord (thenNumber n ++ tail))) what
+    (λ m. further m (afterWord (thenNumber n ++ tail))) ≡ further n tail
 reads limit n what tail further h p = rw (number-first n tail p, number-reads limit n h) (ap (further n) (number-after n tail p))
 
 -- a number at the end of a line
 at-end : (n : ℕ) → thenNumber n ≡ thenNumber n ++ []
 at-end n = sym (append-nil (thenNumber n))
 
-opens : (key : ℕ) (hard : Bool) (soft : Soft) → openOf key (hardText hard ++ softText soft) ≡ Told key (Opens (Named (record { hard = hard; soft = soft })))
-unfolding openOf softOf endOf firstWord afterWord
+opens : (key : ℕ) (hard : Bool) (soft : Soft) →
+    readOpen key (hardText hard ++ softText soft) ≡ Told key (Opens (Named (record { hard = hard; soft = soft })))
+unfolding readOpen readSoft readEnd firstWord afterWord
 opens key true NoSoft = refl
 opens key true Asymmetric = refl
 opens key true Symmetric = refl
@@ -95,8 +101,8 @@ opens key false NoSoft = refl
 opens key false Asymmetric = refl
 opens key false Symmetric = refl
 
-opens-wanted : (key : ℕ) (w : Wanted) → openOf key (wantedText w) ≡ Told key (Opens w)
-unfolding openOf firstWord
+opens-wanted : (key : ℕ) (w : Wanted) → readOpen key (wantedText w) ≡ Told key (Opens w)
+unfolding readOpen firstWord
 opens-wanted key Unnamed = refl
 opens-wanted key (Named s) = opens key (s .hard) (s .soft)
 
@@ -104,76 +110,103 @@ policy-parted : (policy : Bool) → Parted (policyText policy)
 policy-parted true = refl
 policy-parted false = refl
 
-policy-told : (key c : ℕ) (policy : Bool) → policyOf key c (policyText policy) ≡ Told key (Meets (Connect c policy))
-unfolding policyOf endOf firstWord afterWord
+policy-told : (key c : ℕ) (policy : Bool) → readPolicy key c (policyText policy) ≡ Told key (Meets (Connect c policy))
+unfolding readPolicy readEnd firstWord afterWord
 policy-told key c true = refl
 policy-told key c false = refl
 
-connects : (key c : ℕ) (policy : Bool) → c < 65536 → connectOf key (thenNumber c ++ policyText policy) ≡ Told key (Meets (Connect c policy))
-unfolding connectOf
-connects key c policy h = reads 65535 c AConnection (policyText policy) (λ n rest. policyOf key n rest) (omega arith) (policy-parted policy) ∙ policy-told key c policy
+connects : (key c : ℕ) (policy : Bool) → c < 65536 →
+    readConnect key (thenNumber c ++ policyText policy) ≡ Told key (Meets (Connect c policy))
+unfolding readConnect
+connects key c policy h =
+    reads 65535 c AConnection (policyText policy) (λ n rest. readPolicy key n rest) (omega arith) (policy-parted policy)
+    ∙ policy-told key c policy
 
 -- a switchover by its name or its number
-incarnation-told : (key code n : ℕ) → n < 4294967296 → incarnationOf key code (thenNumber n) ≡ Told key (Meets (Setup (record { code = code }) n))
-unfolding incarnationOf endOf firstWord
-incarnation-told key code n h = ap (incarnationOf key code) (at-end n) ∙ reads 4294967295 n AnIncarnation [] (λ m rest. endOf key (Meets (Setup (record { code = code }) m)) rest) (omega arith) tt
+incarnation-told : (key code n : ℕ) → n < 4294967296 →
+    readIncarnation key code (thenNumber n) ≡ Told key (Meets (Setup (record { code = code }) n))
+unfolding readIncarnation readEnd firstWord
+incarnation-told key code n h =
+    ap (readIncarnation key code) (at-end n) ∙ reads 4294967295 n AnIncarnation []
+    (λ m rest. readEnd key (Meets (Setup (record { code = code }) m)) rest) (omega arith) tt
 
-immediate-told : (key n : ℕ) → n < 4294967296 → setupOf key (ascii " immediate" ++ thenNumber n) ≡ Told key (Meets (Setup (record { code = 0 }) n))
-unfolding setupOf codeOf firstWord afterWord
+immediate-told : (key n : ℕ) → n < 4294967296 →
+    readSetup key (ascii " immediate" ++ thenNumber n) ≡ Told key (Meets (Setup (record { code = 0 }) n))
+unfolding readSetup readCode firstWord afterWord
 immediate-told key n h = incarnation-told key 0 n h
 
-clearing-told : (key n : ℕ) → n < 4294967296 → setupOf key (ascii " clearing" ++ thenNumber n) ≡ Told key (Meets (Setup (record { code = 1 }) n))
-unfolding setupOf codeOf firstWord afterWord
+clearing-told : (key n : ℕ) → n < 4294967296 →
+    readSetup key (ascii " clearing" ++ thenNumber n) ≡ Told key (Meets (Setup (record { code = 1 }) n))
+unfolding readSetup readCode firstWord afterWord
 clearing-told key n h = incarnation-told key 1 n h
 
-setups : (key code n : ℕ) → code < 256 → n < 4294967296 → setupOf key (codeText code ++ thenNumber n) ≡ Told key (Meets (Setup (record { code = code }) n))
-unfolding setupOf codeOf
+setups : (key code n : ℕ) → code < 256 → n < 4294967296 →
+    readSetup key (switchoverText code ++ thenNumber n) ≡ Told key (Meets (Setup (record { code = code }) n))
+unfolding readSetup readCode
 setups key code n c h = by-tests (eqb code 0) (eqb code 1) refl refl
   where
-    by-tests : (t u : Bool) → eqb code 0 ≡ t → eqb code 1 ≡ u → setupOf key (cond t (ascii " immediate") (cond u (ascii " clearing") (thenNumber code)) ++ thenNumber n) ≡ Told key (Meets (Setup (record { code = code }) n))
+    by-tests : (t u : Bool) → eqb code 0 ≡ t → eqb code 1 ≡ u →
+        readSetup key (cond t (ascii " immediate") (cond u (ascii " clearing") (thenNumber code)) ++ thenNumber n)
+        ≡ Told key (Meets (Setup (record { code = code }) n))
     by-tests true u e f = rw (eqb-true code 0 e) (immediate-told key n h)
     by-tests false true e f = rw (eqb-true code 1 f) (clearing-told key n h)
     by-tests false false e f =
-        rw (number-first code (thenNumber n) refl, number-no-name code 99 _ (omega arith), number-no-name code 105 _ (omega arith), number-reads 255 code (omega arith), number-after code (thenNumber n) refl)
+        rw (
+          number-first code (thenNumber n) refl,
+          number-no-name code 99 _ (omega arith),
+          number-no-name code 105 _ (omega arith),
+          number-reads 255 code (omega arith),
+          number-after code (thenNumber n) refl,
+        )
         (incarnation-told key code n h)
 
-calling-told : (key : ℕ) (cause : ReceivedCause) → CauseFits cause → callingOf key (causeText cause) ≡ Told key (Meets (FromParty cause))
-unfolding callingOf callingCauseOf endOf firstWord afterWord
+calling-told : (key : ℕ) (cause : ReceivedCause) → CauseFits cause →
+    readCalling key (receivedCauseText cause) ≡ Told key (Meets (FromParty cause))
+unfolding readCalling readCallingCause readEnd firstWord afterWord
 calling-told key NoCause h = refl
-calling-told key (WithCause c) h = ap (callingCauseOf key) (at-end (c .number)) ∙ reads 255 (c .number) ACause [] (λ n rest. endOf key (Meets (FromParty (WithCause (record { number = n })))) rest) (omega arith) tt
+calling-told key (WithCause c) h =
+    ap (readCallingCause key) (at-end (c .number))
+    ∙ reads 255 (c .number) ACause [] (λ n rest. readEnd key (Meets (FromParty (WithCause (record { number = n })))) rest) (omega arith) tt
 
-crankback-told : (key c : ℕ) (cause : ReceivedCause) (what : What) (back : Crankback) → crankbackOf key c cause what (crankbackText back) ≡ Told key (Meets (FromDomain c cause back))
-unfolding crankbackOf endOf firstWord afterWord
+crankback-told : (key c : ℕ) (cause : ReceivedCause) (what : What) (back : Crankback) →
+    readCrankback key c cause what (crankbackText back) ≡ Told key (Meets (FromDomain c cause back))
+unfolding readCrankback readEnd firstWord afterWord
 crankback-told key c cause what NoCrankback = refl
 crankback-told key c cause what AlternateFound = refl
 crankback-told key c cause what NoAlternate = refl
 
-no-cause-told : (key c : ℕ) (back : Crankback) → releaseOf key c (crankbackText back) ≡ crankbackOf key c NoCause CauseCrankbackOrEnd (crankbackText back)
-unfolding releaseOf firstWord
+no-cause-told : (key c : ℕ) (back : Crankback) →
+    readRelease key c (crankbackText back) ≡ readCrankback key c NoCause CauseCrankbackOrEnd (crankbackText back)
+unfolding readRelease firstWord
 no-cause-told key c NoCrankback = refl
 no-cause-told key c AlternateFound = refl
 no-cause-told key c NoAlternate = refl
 
-release-told : (key c : ℕ) (cause : ReceivedCause) (back : Crankback) → CauseFits cause → releaseOf key c (causeText cause ++ crankbackText back) ≡ Told key (Meets (FromDomain c cause back))
-unfolding releaseOf calledCauseOf firstWord afterWord
+release-told : (key c : ℕ) (cause : ReceivedCause) (back : Crankback) → CauseFits cause →
+    readRelease key c (receivedCauseText cause ++ crankbackText back) ≡ Told key (Meets (FromDomain c cause back))
+unfolding readRelease readCalledCause firstWord afterWord
 release-told key c NoCause back h = no-cause-told key c back ∙ crankback-told key c NoCause CauseCrankbackOrEnd back
 release-told key c (WithCause cause) back h =
-    reads 255 (cause .number) ACause (crankbackText back) (λ n rest. crankbackOf key c (WithCause (record { number = n })) CrankbackOrEnd rest) (omega arith) (crankback-parted back)
+    reads 255 (cause .number) ACause (crankbackText back)
+    (λ n rest. readCrankback key c (WithCause (record { number = n })) CrankbackOrEnd rest) (omega arith) (crankback-parted back)
     ∙ crankback-told key c (WithCause cause) CrankbackOrEnd back
 
-called-told : (key c : ℕ) (cause : ReceivedCause) (back : Crankback) → c < 65536 → CauseFits cause → calledOf key (thenNumber c ++ (causeText cause ++ crankbackText back)) ≡ Told key (Meets (FromDomain c cause back))
-unfolding calledOf
+called-told : (key c : ℕ) (cause : ReceivedCause) (back : Crankback) → c < 65536 → CauseFits cause →
+    readCalled key (thenNumber c ++ (receivedCauseText cause ++ crankbackText back)) ≡ Told key (Meets (FromDomain c cause back))
+unfolding readCalled
 called-told key c cause back h f =
-    reads 65535 c AConnection (causeText cause ++ crankbackText back) (λ n rest. releaseOf key n rest) (omega arith) (cause-parted cause back)
+    reads 65535 c AConnection (receivedCauseText cause ++ crankbackText back) (λ n rest. readRelease key n rest) (omega arith)
+    (cause-parted cause back)
     ∙ release-told key c cause back f
 
 -- the name, the key, and the rest
-keyed-told : (name : Name) (key : ℕ) (rest : List ℕ) → key < 4294967296 → Parted rest → keyedOf name (thenNumber key ++ rest) ≡ argumentsOf name key rest
-unfolding keyedOf
-keyed-told name key rest h p = reads 4294967295 key AKey rest (λ k more. argumentsOf name k more) (omega arith) p
+keyed-told : (name : Name) (key : ℕ) (rest : List ℕ) → key < 4294967296 → Parted rest →
+    readKeyed name (thenNumber key ++ rest) ≡ readArguments name key rest
+unfolding readKeyed
+keyed-told name key rest h p = reads 4294967295 key AKey rest (λ k more. readArguments name k more) (omega arith) p
 
-nothing-told : (key : ℕ) (act : Act) → endOf key act [] ≡ Told key act
-unfolding endOf firstWord
+nothing-told : (key : ℕ) (act : Act) → readEnd key act [] ≡ Told key act
+unfolding readEnd firstWord
 nothing-told key act = refl
 
 event-told : (key : ℕ) (e : Event) → Fits key (Meets e) → parsedOf (eventText key (Meets e)) ≡ Told key (Meets e)
@@ -184,7 +217,8 @@ event-told key NoPath h = keyed-told NoPathName key [] (h .0) tt ∙ nothing-tol
 event-told key (Connect c policy) h = keyed-told ConnectName key _ (h .0) (event-parted (Connect c policy)) ∙ connects key c policy (h .1)
 event-told key (Setup s n) h = keyed-told SetupName key _ (h .0) (event-parted (Setup s n)) ∙ setups key (s .code) n (h .1 .0) (h .1 .1)
 event-told key (FromParty cause) h = keyed-told CallingName key _ (h .0) (event-parted (FromParty cause)) ∙ calling-told key cause (h .1)
-event-told key (FromDomain c cause back) h = keyed-told CalledName key _ (h .0) (event-parted (FromDomain c cause back)) ∙ called-told key c cause back (h .1 .0) (h .1 .1)
+event-told key (FromDomain c cause back) h =
+    keyed-told CalledName key _ (h .0) (event-parted (FromDomain c cause back)) ∙ called-told key c cause back (h .1 .0) (h .1 .1)
 event-told key Ready h = keyed-told ReadyName key [] (h .0) tt ∙ nothing-told key (Meets Ready)
 event-told key Expiry h = keyed-told ExpiryName key [] (h .0) tt ∙ nothing-told key (Meets Expiry)
 
@@ -200,13 +234,17 @@ pub round-trip : claim.RoundTrip
 round-trip key act h = (line-told key act h, read-back key act h)
 
 pub written-as-read : claim.WrittenAsRead
-written-as-read line key act e = let fits : Fits key act = fits-of key act (subst Sound e (parsed-sound line)) in (fits, read-back key act fits)
+written-as-read line key act e =
+    let fits : Fits key act = fits-of key act (subst Sound e (parsed-sound line)) in
+    (fits, read-back key act fits)
 
 pub comments-are-not-read : claim.CommentsAreNotRead
-comments-are-not-read line comment = parsed-same (35 ∷ comment) (λ rest. comment-is-no-word rest comment .0) (λ rest. inl (comment-is-no-word rest comment .1)) line
+comments-are-not-read line comment =
+    parsed-same (35 ∷ comment) (λ rest. comment-is-no-word rest comment .0) (λ rest. inl (comment-is-no-word rest comment .1)) line
 
 pub blanks-behind-are-not-read : claim.BlanksBehindAreNotRead
-blanks-behind-are-not-read line b blank = parsed-same (b ∷ []) (λ rest. blank-behind-is-no-word rest b blank .0) (λ rest. blank-behind-is-no-word rest b blank .1) line
+blanks-behind-are-not-read line b blank =
+    parsed-same (b ∷ []) (λ rest. blank-behind-is-no-word rest b blank .0) (λ rest. blank-behind-is-no-word rest b blank .1) line
 
 pub listed-is-read : claim.ListedIsRead
 listed-is-read key act comment fits =

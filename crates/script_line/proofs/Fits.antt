@@ -5,7 +5,7 @@ use mathlib.Core.Path.{_≡_, refl}
 use mathlib.Core.Bool.{Bool, true, false, cond}
 use mathlib.Core.List.{List}
 use Rattle.line_words.specs.Words.{firstWord, afterWord}
-use Rattle.line_words.specs.Numbers.{numberIn}
+use Rattle.line_words.specs.Numbers.{numberUpTo}
 use Rattle.line_words.specs.declared.Reading.{Reading}
 use Rattle.line_words.specs.declared.Reading.the-variants.{Counts, NoNumber}
 use Rattle.line_words.proofs.Numbers.{at-most}
@@ -15,12 +15,15 @@ use Rattle.events.specs.declared.Act.{Act}
 use Rattle.event_record.specs.Claims.{CauseFits, Fits}
 use Rattle.script_words.specs.declared.What.{What}
 use Rattle.script_line.specs.declared.Name.{Name}
-use Rattle.script_line.specs.declared.Name.the-variants.{OpenName, TriggerName, PathName, NoPathName, ConnectName, SetupName, CallingName, CalledName, ReadyName, ExpiryName}
+use Rattle.script_line.specs.declared.Name.the-variants.{OpenName, TriggerName, PathName, NoPathName, ConnectName, SetupName}
+use Rattle.script_line.specs.declared.Name.the-variants.{CallingName, CalledName, ReadyName, ExpiryName}
 use Rattle.script_line.specs.declared.Naming.{Naming}
 use Rattle.script_line.specs.declared.Naming.the-variants.{NoName, Names}
 use Rattle.script_line.specs.declared.Parsed.{Parsed}
 use Rattle.script_line.specs.declared.Parsed.the-variants.{Wordless, Told, Expected}
-use Rattle.script_line.specs.Script.{isWord, nameOf, endOf, softOf, openOf, policyOf, withNumber, connectOf, codeOf, incarnationOf, setupOf, callingCauseOf, callingOf, crankbackOf, calledCauseOf, releaseOf, calledOf, argumentsOf, keyedOf, namedOf, parsedOf}
+use Rattle.script_line.specs.Script.{isWord, nameOf, readEnd, readSoft, readOpen, readPolicy, withNumber, readConnect, readCode}
+use Rattle.script_line.specs.Script.{readIncarnation, readSetup, readCallingCause, readCalling, readCrankback, readCalledCause}
+use Rattle.script_line.specs.Script.{readRelease, readCalled, readArguments, readKeyed, readNamed, parsedOf}
 use Rattle.script_line.proofs.Laws.{code-at-most}
 
 abbrev Meaning : Parsed → Type 0
@@ -45,75 +48,87 @@ either : (t : Bool) {x y : Parsed} → Sound x → Sound y → Sound (cond t x y
 either true a b = a
 either false a b = b
 
-of-reading : (limit : ℕ) (reading : Reading) (what : What) (further : ℕ → Parsed) → ((n : ℕ) → reading ≡ Counts n → n ≤ limit) → ((n : ℕ) → n ≤ limit → Sound (further n)) → Sound (withNumber reading what further)
+of-reading : (limit : ℕ) (reading : Reading) (what : What) (further : ℕ → Parsed) → ((n : ℕ) → reading ≡ Counts n → n ≤ limit) →
+    ((n : ℕ) → n ≤ limit → Sound (further n)) → Sound (withNumber reading what further)
 of-reading limit NoNumber what further most sound = expected
 of-reading limit (Counts n) what further most sound = sound n (most n refl)
 
-of-number : (limit : ℕ) (word : List ℕ) (what : What) (further : ℕ → Parsed) → ((n : ℕ) → n ≤ limit → Sound (further n)) → Sound (withNumber (numberIn limit word) what further)
-of-number limit word what further sound = of-reading limit (numberIn limit word) what further (at-most limit word) sound
+of-number : (limit : ℕ) (word : List ℕ) (what : What) (further : ℕ → Parsed) → ((n : ℕ) → n ≤ limit → Sound (further n)) →
+    Sound (withNumber (numberUpTo limit word) what further)
+of-number limit word what further sound = of-reading limit (numberUpTo limit word) what further (at-most limit word) sound
 
-end-sound : (key : ℕ) (act : Act) (rest : List ℕ) → Fits key act → Sound (endOf key act rest)
-unfolding endOf
+end-sound : (key : ℕ) (act : Act) (rest : List ℕ) → Fits key act → Sound (readEnd key act rest)
+unfolding readEnd
 end-sound key act rest fits = either (isWord (firstWord rest) "") (told fits) expected
 
 module _ (key : ℕ) (k : key < 4294967296) where
-  soft-sound : (hard : Bool) (rest : List ℕ) → Sound (softOf key hard rest)
-  unfolding softOf
+  soft-sound : (hard : Bool) (rest : List ℕ) → Sound (readSoft key hard rest)
+  unfolding readSoft
   soft-sound hard rest =
       either (isWord (firstWord rest) "none") (end-sound key _ _ (k, tt))
-      (either (isWord (firstWord rest) "asymmetric") (end-sound key _ _ (k, tt)) (either (isWord (firstWord rest) "symmetric") (end-sound key _ _ (k, tt)) expected))
+      (either (isWord (firstWord rest) "asymmetric") (end-sound key _ _ (k, tt))
+      (either (isWord (firstWord rest) "symmetric") (end-sound key _ _ (k, tt)) expected))
 
-  open-sound : (rest : List ℕ) → Sound (openOf key rest)
-  unfolding openOf
+  open-sound : (rest : List ℕ) → Sound (readOpen key rest)
+  unfolding readOpen
   open-sound rest =
       either (isWord (firstWord rest) "") (told (k, tt))
-      (either (isWord (firstWord rest) "hard") (soft-sound true (afterWord rest)) (either (isWord (firstWord rest) "nohard") (soft-sound false (afterWord rest)) expected))
+      (either (isWord (firstWord rest) "hard") (soft-sound true (afterWord rest))
+      (either (isWord (firstWord rest) "nohard") (soft-sound false (afterWord rest)) expected))
 
-  policy-sound : (c : ℕ) (rest : List ℕ) → c < 65536 → Sound (policyOf key c rest)
-  unfolding policyOf
+  policy-sound : (c : ℕ) (rest : List ℕ) → c < 65536 → Sound (readPolicy key c rest)
+  unfolding readPolicy
   policy-sound c rest h =
-      either (isWord (firstWord rest) "yes") (end-sound key _ _ (k, h)) (either (isWord (firstWord rest) "no") (end-sound key _ _ (k, h)) expected)
+      either (isWord (firstWord rest) "yes") (end-sound key _ _ (k, h))
+      (either (isWord (firstWord rest) "no") (end-sound key _ _ (k, h)) expected)
 
-  connect-sound : (rest : List ℕ) → Sound (connectOf key rest)
-  unfolding connectOf
+  connect-sound : (rest : List ℕ) → Sound (readConnect key rest)
+  unfolding readConnect
   connect-sound rest = of-number 65535 (firstWord rest) _ _ (λ c h. policy-sound c (afterWord rest) (omega arith))
 
-  incarnation-sound : (code : ℕ) (rest : List ℕ) → code < 256 → Sound (incarnationOf key code rest)
-  unfolding incarnationOf
+  incarnation-sound : (code : ℕ) (rest : List ℕ) → code < 256 → Sound (readIncarnation key code rest)
+  unfolding readIncarnation
   incarnation-sound code rest h = of-number 4294967295 (firstWord rest) _ _ (λ n l. end-sound key _ _ (k, (h, omega arith)))
 
-  setup-sound : (rest : List ℕ) → Sound (setupOf key rest)
-  unfolding setupOf
+  setup-sound : (rest : List ℕ) → Sound (readSetup key rest)
+  unfolding readSetup
   setup-sound rest =
-      of-reading 255 (codeOf (firstWord rest)) _ _ (code-at-most (firstWord rest)) (λ code h. incarnation-sound code (afterWord rest) (omega arith))
+      of-reading 255 (readCode (firstWord rest)) _ _ (code-at-most (firstWord rest))
+      (λ code h. incarnation-sound code (afterWord rest) (omega arith))
 
-  calling-cause-sound : (rest : List ℕ) → Sound (callingCauseOf key rest)
-  unfolding callingCauseOf
+  calling-cause-sound : (rest : List ℕ) → Sound (readCallingCause key rest)
+  unfolding readCallingCause
   calling-cause-sound rest = of-number 255 (firstWord rest) _ _ (λ n h. end-sound key _ _ (k, omega arith))
 
-  calling-sound : (rest : List ℕ) → Sound (callingOf key rest)
-  unfolding callingOf
-  calling-sound rest = either (isWord (firstWord rest) "") (told (k, tt)) (either (isWord (firstWord rest) "cause") (calling-cause-sound (afterWord rest)) expected)
+  calling-sound : (rest : List ℕ) → Sound (readCalling key rest)
+  unfolding readCalling
+  calling-sound rest =
+      either (isWord (firstWord rest) "") (told (k, tt))
+      (either (isWord (firstWord rest) "cause") (calling-cause-sound (afterWord rest)) expected)
 
-  crankback-sound : (c : ℕ) (cause : ReceivedCause) (what : What) (rest : List ℕ) → c < 65536 → CauseFits cause → Sound (crankbackOf key c cause what rest)
-  unfolding crankbackOf
+  crankback-sound : (c : ℕ) (cause : ReceivedCause) (what : What) (rest : List ℕ) → c < 65536 → CauseFits cause →
+      Sound (readCrankback key c cause what rest)
+  unfolding readCrankback
   crankback-sound c cause what rest h f =
       either (isWord (firstWord rest) "") (told (k, (h, f)))
-      (either (isWord (firstWord rest) "alternate") (end-sound key _ _ (k, (h, f))) (either (isWord (firstWord rest) "noalternate") (end-sound key _ _ (k, (h, f))) expected))
+      (either (isWord (firstWord rest) "alternate") (end-sound key _ _ (k, (h, f)))
+      (either (isWord (firstWord rest) "noalternate") (end-sound key _ _ (k, (h, f))) expected))
 
-  called-cause-sound : (c : ℕ) (rest : List ℕ) → c < 65536 → Sound (calledCauseOf key c rest)
-  unfolding calledCauseOf
-  called-cause-sound c rest h = of-number 255 (firstWord rest) _ _ (λ n l. crankback-sound c (WithCause (record { number = n })) _ (afterWord rest) h (omega arith))
+  called-cause-sound : (c : ℕ) (rest : List ℕ) → c < 65536 → Sound (readCalledCause key c rest)
+  unfolding readCalledCause
+  called-cause-sound c rest h =
+      of-number 255 (firstWord rest) _ _ (λ n l. crankback-sound c (WithCause (record { number = n })) _ (afterWord rest) h (omega arith))
 
-  release-sound : (c : ℕ) (rest : List ℕ) → c < 65536 → Sound (releaseOf key c rest)
-  unfolding releaseOf
-  release-sound c rest h = either (isWord (firstWord rest) "cause") (called-cause-sound c (afterWord rest) h) (crankback-sound c NoCause _ rest h tt)
+  release-sound : (c : ℕ) (rest : List ℕ) → c < 65536 → Sound (readRelease key c rest)
+  unfolding readRelease
+  release-sound c rest h =
+      either (isWord (firstWord rest) "cause") (called-cause-sound c (afterWord rest) h) (crankback-sound c NoCause _ rest h tt)
 
-  called-sound : (rest : List ℕ) → Sound (calledOf key rest)
-  unfolding calledOf
+  called-sound : (rest : List ℕ) → Sound (readCalled key rest)
+  unfolding readCalled
   called-sound rest = of-number 65535 (firstWord rest) _ _ (λ c h. release-sound c (afterWord rest) (omega arith))
 
-  arguments-sound : (name : Name) (rest : List ℕ) → Sound (argumentsOf name key rest)
+  arguments-sound : (name : Name) (rest : List ℕ) → Sound (readArguments name key rest)
   arguments-sound OpenName rest = open-sound rest
   arguments-sound TriggerName rest = end-sound key _ rest (k, tt)
   arguments-sound PathName rest = end-sound key _ rest (k, tt)
@@ -125,8 +140,8 @@ module _ (key : ℕ) (k : key < 4294967296) where
   arguments-sound ReadyName rest = end-sound key _ rest (k, tt)
   arguments-sound ExpiryName rest = end-sound key _ rest (k, tt)
 
-named-sound : (naming : Naming) (rest : List ℕ) → Sound (namedOf naming rest)
-unfolding keyedOf
+named-sound : (naming : Naming) (rest : List ℕ) → Sound (readNamed naming rest)
+unfolding readKeyed
 named-sound NoName rest = expected
 named-sound (Names name) rest = of-number 4294967295 (firstWord rest) _ _ (λ key h. arguments-sound key (omega arith) name (afterWord rest))
 

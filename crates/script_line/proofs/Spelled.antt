@@ -8,7 +8,7 @@ use lib.Dec.{ltb, leb}
 use borrow.Author.Tests.{le-ltb, le-leb, ltb-true, ltb-false, leb-true, ne-eqb}
 use Rattle.lines.specs.Lines.{spelled, numberText}
 use Rattle.line_words.specs.Words.{isBlank, isOfWord, front, past, firstWord, afterWord, sameText}
-use Rattle.line_words.specs.Numbers.{isDigit, allDigits, isNumber, valueFrom, numberIn}
+use Rattle.line_words.specs.Numbers.{isDigit, allDigits, isDecimal, valueFrom, numberUpTo}
 use Rattle.line_words.specs.declared.Reading.the-variants.{Counts}
 use Rattle.event_words.specs.Words.{thenNumber}
 
@@ -58,7 +58,7 @@ past-digits : (ds tail : List ℕ) → allDigits ds ≡ true → Parted tail →
 past-digits [] tail d p = past-ends tail p
 past-digits (b ∷ bs) tail d p = let s = digits-split b bs d in rw (of-word b (s .0)) (past-digits bs tail (s .1) p)
 
-no-blanks : (ds tail : List ℕ) → isNumber ds ≡ true → past isBlank (ds ++ tail) ≡ ds ++ tail
+no-blanks : (ds tail : List ℕ) → isDecimal ds ≡ true → past isBlank (ds ++ tail) ≡ ds ++ tail
 no-blanks [] tail d = absurd (false≢true d)
 no-blanks (b ∷ bs) tail d = let s = digits-split b bs d in rw (no-blank b (s .0))
 
@@ -75,20 +75,22 @@ unfolding spelled
 spelled-digits zero n = refl
 spelled-digits (suc f) n = by-test (ltb n 10) refl (spelled-digits f (n / 10))
   where
-    by-test : (t : Bool) → ltb n 10 ≡ t → allDigits (spelled f (n / 10)) ≡ true → allDigits (cond t ((48 + n) ∷ []) (spelled f (n / 10) ++ ((48 + n % 10) ∷ []))) ≡ true
+    by-test : (t : Bool) → ltb n 10 ≡ t → allDigits (spelled f (n / 10)) ≡ true →
+        allDigits (cond t ((48 + n) ∷ []) (spelled f (n / 10) ++ ((48 + n % 10) ∷ []))) ≡ true
     by-test true h rest = one-digit n (ltb-true n 10 h)
     by-test false h rest = digits-append (spelled f (n / 10)) ((48 + n % 10) ∷ []) rest (one-digit (n % 10) (omega arith))
 
 -- one at least
-is-number : (a : List ℕ) (b : ℕ) → allDigits (a ++ (b ∷ [])) ≡ true → isNumber (a ++ (b ∷ [])) ≡ true
+is-number : (a : List ℕ) (b : ℕ) → allDigits (a ++ (b ∷ [])) ≡ true → isDecimal (a ++ (b ∷ [])) ≡ true
 is-number [] b d = d
 is-number (x ∷ a) b d = d
 
-spelled-number : (f n : ℕ) → isNumber (spelled (suc f) n) ≡ true
+spelled-number : (f n : ℕ) → isDecimal (spelled (suc f) n) ≡ true
 unfolding spelled
 spelled-number f n = by-test (ltb n 10) (spelled-digits (suc f) n)
   where
-    by-test : (t : Bool) → allDigits (cond t ((48 + n) ∷ []) (spelled f (n / 10) ++ ((48 + n % 10) ∷ []))) ≡ true → isNumber (cond t ((48 + n) ∷ []) (spelled f (n / 10) ++ ((48 + n % 10) ∷ []))) ≡ true
+    by-test : (t : Bool) → allDigits (cond t ((48 + n) ∷ []) (spelled f (n / 10) ++ ((48 + n % 10) ∷ []))) ≡ true →
+        isDecimal (cond t ((48 + n) ∷ []) (spelled f (n / 10) ++ ((48 + n % 10) ∷ []))) ≡ true
     by-test true d = d
     by-test false d = is-number (spelled f (n / 10)) (48 + n % 10) d
 
@@ -102,14 +104,15 @@ unfolding spelled
 spelled-value zero n h = absurd (omega arith)
 spelled-value (suc f) n h = by-test (ltb n 10) refl (λ k. spelled-value f (n / 10) k)
   where
-    by-test : (t : Bool) → ltb n 10 ≡ t → (n / 10 < f → valueFrom 0 (spelled f (n / 10)) ≡ n / 10) → valueFrom 0 (cond t ((48 + n) ∷ []) (spelled f (n / 10) ++ ((48 + n % 10) ∷ []))) ≡ n
+    by-test : (t : Bool) → ltb n 10 ≡ t → (n / 10 < f → valueFrom 0 (spelled f (n / 10)) ≡ n / 10) →
+        valueFrom 0 (cond t ((48 + n) ∷ []) (spelled f (n / 10) ++ ((48 + n % 10) ∷ []))) ≡ n
     by-test true e rest = let v : 0 * 10 + (48 + n) - 48 ≡ n = omega arith in v
     by-test false e rest =
         let ten : 10 ≤ n = ltb-false n 10 e in
         let v : valueFrom 0 (spelled f (n / 10)) ≡ n / 10 = rest (omega arith) in
         value-append 0 (spelled f (n / 10)) (48 + n % 10) ∙ omega arith
 
-pub text-number : (n : ℕ) → isNumber (numberText n) ≡ true
+pub text-number : (n : ℕ) → isDecimal (numberText n) ≡ true
 unfolding numberText
 text-number n = spelled-number n n
 
@@ -131,8 +134,8 @@ module _ (n : ℕ) (tail : List ℕ) (p : Parted tail) where
   unfolding afterWord
   number-after = ap (past isOfWord) (no-blanks (numberText n) tail (text-number n)) ∙ past-digits (numberText n) tail (text-digits n) p
 
-pub number-reads : (limit n : ℕ) → n ≤ limit → numberIn limit (numberText n) ≡ Counts n
-unfolding numberIn
+pub number-reads : (limit n : ℕ) → n ≤ limit → numberUpTo limit (numberText n) ≡ Counts n
+unfolding numberUpTo
 number-reads limit n h = rw (text-number n, text-value n, le-leb n limit h)
 
 -- and is no name

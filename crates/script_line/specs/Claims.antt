@@ -36,4 +36,5 @@ BlanksBehindAreNotRead = (line : List ℕ) (b : ℕ) → isBlank b ≡ true → 
 
 -- So what `list` prints is read as the event that it tells, whatever count stands in its comment.
 abbrev pub ListedIsRead : Type 0
-ListedIsRead = (key : ℕ) (act : Act) (comment : List ℕ) → Fits key act → parsedOf (eventText key act ++ (ascii "  #" ++ comment)) ≡ Told key act
+ListedIsRead =
+    (key : ℕ) (act : Act) (comment : List ℕ) → Fits key act → parsedOf (eventText key act ++ (ascii "  #" ++ comment)) ≡ Told key act

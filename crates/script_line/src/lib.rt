@@ -1,10 +1,14 @@
-// A line of a script read into a key and what is done with it, or into what was expected at the first word that does not fit (docs/BENCH.md, "script").
+// A line of a script read into a key and what is done with it, or into what was expected at the first word that does not fit
+// (docs/BENCH.md, "script").
 //
 // The name of the event is judged first, then the key, then the rest from left to right.
 ghost use mathlib.Core.Path.{_≡_};
 ghost use lib.ListN.{drop};
 ghost use Rattle.line_words.specs.Words.{firstWord};
-ghost use Rattle.script_line.specs.Script.{plainName, fullName, nameOf, endOf, servicesOf, softOf, openOf, policyOf, connectOf, codeOf, incarnationOf, setupOf, callingCauseOf, callingOf, crankbackOf, calledCauseOf, releaseOf, calledOf, argumentsOf, keyedOf, parsedOf};
+ghost use Rattle.script_line.specs.Script.{plainName, fullName, nameOf, readEnd, readServices, readSoft, readOpen, readPolicy};
+ghost use Rattle.script_line.specs.Script.{readConnect, readCode, readIncarnation, readSetup, readCallingCause, readCalling};
+ghost use Rattle.script_line.specs.Script.{readCrankback, readCalledCause, readRelease, readCalled, readArguments, readKeyed};
+ghost use Rattle.script_line.specs.Script.{parsedOf};
 use events::Act;
 use events::Event;
 use line_words::Reading;
@@ -49,7 +53,7 @@ pub enum Naming {
 
 // Nothing may follow.
 fn end(line: &[u8], at: usize, key: u32, act: Act) -> Parsed
-    ensures { λ r. ⌜ r ≡ endOf key act (drop at (now (line .entry))) ⌝ }
+    ensures { λ r. ⌜ r ≡ readEnd key act (drop at (now (line .entry))) ⌝ }
 {
     if is(line, at, b"") {
         return Parsed::Told(key, act);
@@ -58,14 +62,14 @@ fn end(line: &[u8], at: usize, key: u32, act: Act) -> Parsed
 }
 
 fn services(line: &[u8], at: usize, key: u32, hard: bool, soft: Soft) -> Parsed
-    ensures { λ r. ⌜ r ≡ servicesOf key hard soft (drop at (now (line .entry))) ⌝ }
+    ensures { λ r. ⌜ r ≡ readServices key hard soft (drop at (now (line .entry))) ⌝ }
 {
     let services = Services { hard, soft };
     end(line, at, key, Act::Opens(Wanted::Named(services)))
 }
 
 fn soft(line: &[u8], at: usize, key: u32, hard: bool) -> Parsed
-    ensures { λ r. ⌜ r ≡ softOf key hard (drop at (now (line .entry))) ⌝ }
+    ensures { λ r. ⌜ r ≡ readSoft key hard (drop at (now (line .entry))) ⌝ }
 {
     if is(line, at, b"none") {
         return services(line, after(line, at), key, hard, Soft::NoSoft);
@@ -80,7 +84,7 @@ fn soft(line: &[u8], at: usize, key: u32, hard: bool) -> Parsed
 }
 
 fn open(line: &[u8], at: usize, key: u32) -> Parsed
-    ensures { λ r. ⌜ r ≡ openOf key (drop at (now (line .entry))) ⌝ }
+    ensures { λ r. ⌜ r ≡ readOpen key (drop at (now (line .entry))) ⌝ }
 {
     if is(line, at, b"") {
         return Parsed::Told(key, Act::Opens(Wanted::Unnamed));
@@ -95,7 +99,7 @@ fn open(line: &[u8], at: usize, key: u32) -> Parsed
 }
 
 fn policy(line: &[u8], at: usize, key: u32, connection: u16) -> Parsed
-    ensures { λ r. ⌜ r ≡ policyOf key connection (drop at (now (line .entry))) ⌝ }
+    ensures { λ r. ⌜ r ≡ readPolicy key connection (drop at (now (line .entry))) ⌝ }
 {
     if is(line, at, b"yes") {
         return end(
@@ -117,7 +121,7 @@ fn policy(line: &[u8], at: usize, key: u32, connection: u16) -> Parsed
 }
 
 fn connect(line: &[u8], at: usize, key: u32) -> Parsed
-    ensures { λ r. ⌜ r ≡ connectOf key (drop at (now (line .entry))) ⌝ }
+    ensures { λ r. ⌜ r ≡ readConnect key (drop at (now (line .entry))) ⌝ }
 {
     let connection = number(line, at, 65535);
     match connection {
@@ -128,7 +132,7 @@ fn connect(line: &[u8], at: usize, key: u32) -> Parsed
 
 // A switchover by its name or its number.
 fn code(line: &[u8], at: usize) -> Reading
-    ensures { λ r. ⌜ r ≡ codeOf (firstWord (drop at (now (line .entry)))) ⌝ }
+    ensures { λ r. ⌜ r ≡ readCode (firstWord (drop at (now (line .entry)))) ⌝ }
 {
     if is(line, at, b"clearing") {
         return Reading::Counts(1);
@@ -140,7 +144,7 @@ fn code(line: &[u8], at: usize) -> Reading
 }
 
 fn incarnation(line: &[u8], at: usize, key: u32, code: u8) -> Parsed
-    ensures { λ r. ⌜ r ≡ incarnationOf key code (drop at (now (line .entry))) ⌝ }
+    ensures { λ r. ⌜ r ≡ readIncarnation key code (drop at (now (line .entry))) ⌝ }
 {
     let incarnation = number(line, at, 4294967295);
     match incarnation {
@@ -155,7 +159,7 @@ fn incarnation(line: &[u8], at: usize, key: u32, code: u8) -> Parsed
 }
 
 fn setup(line: &[u8], at: usize, key: u32) -> Parsed
-    ensures { λ r. ⌜ r ≡ setupOf key (drop at (now (line .entry))) ⌝ }
+    ensures { λ r. ⌜ r ≡ readSetup key (drop at (now (line .entry))) ⌝ }
 {
     let switchover = code(line, at);
     match switchover {
@@ -165,7 +169,7 @@ fn setup(line: &[u8], at: usize, key: u32) -> Parsed
 }
 
 fn calling_cause(line: &[u8], at: usize, key: u32) -> Parsed
-    ensures { λ r. ⌜ r ≡ callingCauseOf key (drop at (now (line .entry))) ⌝ }
+    ensures { λ r. ⌜ r ≡ readCallingCause key (drop at (now (line .entry))) ⌝ }
 {
     let cause = number(line, at, 255);
     match cause {
@@ -185,7 +189,7 @@ fn calling_cause(line: &[u8], at: usize, key: u32) -> Parsed
 }
 
 fn calling(line: &[u8], at: usize, key: u32) -> Parsed
-    ensures { λ r. ⌜ r ≡ callingOf key (drop at (now (line .entry))) ⌝ }
+    ensures { λ r. ⌜ r ≡ readCalling key (drop at (now (line .entry))) ⌝ }
 {
     if is(line, at, b"") {
         return Parsed::Told(key, Act::Meets(Event::FromParty(ReceivedCause::NoCause)));
@@ -205,7 +209,7 @@ fn crankback(
     cause: ReceivedCause,
     what: What,
 ) -> Parsed
-    ensures { λ r. ⌜ r ≡ crankbackOf key connection cause what (drop at (now (line .entry))) ⌝ }
+    ensures { λ r. ⌜ r ≡ readCrankback key connection cause what (drop at (now (line .entry))) ⌝ }
 {
     if is(line, at, b"") {
         return Parsed::Told(
@@ -233,7 +237,7 @@ fn crankback(
 }
 
 fn called_cause(line: &[u8], at: usize, key: u32, connection: u16) -> Parsed
-    ensures { λ r. ⌜ r ≡ calledCauseOf key connection (drop at (now (line .entry))) ⌝ }
+    ensures { λ r. ⌜ r ≡ readCalledCause key connection (drop at (now (line .entry))) ⌝ }
 {
     let cause = number(line, at, 255);
     match cause {
@@ -255,7 +259,7 @@ fn called_cause(line: &[u8], at: usize, key: u32, connection: u16) -> Parsed
 }
 
 fn release(line: &[u8], at: usize, key: u32, connection: u16) -> Parsed
-    ensures { λ r. ⌜ r ≡ releaseOf key connection (drop at (now (line .entry))) ⌝ }
+    ensures { λ r. ⌜ r ≡ readRelease key connection (drop at (now (line .entry))) ⌝ }
 {
     if is(line, at, b"cause") {
         return called_cause(line, after(line, at), key, connection);
@@ -271,7 +275,7 @@ fn release(line: &[u8], at: usize, key: u32, connection: u16) -> Parsed
 }
 
 fn called(line: &[u8], at: usize, key: u32) -> Parsed
-    ensures { λ r. ⌜ r ≡ calledOf key (drop at (now (line .entry))) ⌝ }
+    ensures { λ r. ⌜ r ≡ readCalled key (drop at (now (line .entry))) ⌝ }
 {
     let connection = number(line, at, 65535);
     match connection {
@@ -281,7 +285,7 @@ fn called(line: &[u8], at: usize, key: u32) -> Parsed
 }
 
 fn arguments(line: &[u8], at: usize, name: Name, key: u32) -> Parsed
-    ensures { λ r. ⌜ r ≡ argumentsOf name key (drop at (now (line .entry))) ⌝ }
+    ensures { λ r. ⌜ r ≡ readArguments name key (drop at (now (line .entry))) ⌝ }
 {
     match name {
         Name::OpenName => open(line, at, key),
@@ -298,7 +302,7 @@ fn arguments(line: &[u8], at: usize, name: Name, key: u32) -> Parsed
 }
 
 fn keyed(line: &[u8], at: usize, name: Name) -> Parsed
-    ensures { λ r. ⌜ r ≡ keyedOf name (drop at (now (line .entry))) ⌝ }
+    ensures { λ r. ⌜ r ≡ readKeyed name (drop at (now (line .entry))) ⌝ }
 {
     let key = number(line, at, 4294967295);
     match key {

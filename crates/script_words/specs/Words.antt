@@ -3,7 +3,9 @@ use Prim.Native.Nat.{ℕ}
 use mathlib.Core.List.{List}
 use Rattle.lines.specs.Lines.{ascii}
 use Rattle.script_words.specs.declared.What.{What}
-use Rattle.script_words.specs.declared.What.the-variants.{AnEvent, AKey, HardOrEnd, ASoftService, AConnection, YesOrNo, ASwitchover, AnIncarnation, CauseOrEnd, ACause, CauseCrankbackOrEnd, CrankbackOrEnd, NothingMore}
+use Rattle.script_words.specs.declared.What.the-variants.{AnEvent, AKey, HardOrEnd, ASoftService, AConnection, YesOrNo, ASwitchover}
+use Rattle.script_words.specs.declared.What.the-variants.{AnIncarnation, CauseOrEnd, ACause, CauseCrankbackOrEnd, CrankbackOrEnd}
+use Rattle.script_words.specs.declared.What.the-variants.{NothingMore}
 
 abbrev pub whatText : What → List ℕ
 whatText AnEvent = ascii "open, trigger, path, nopath, connect, setup, calling, called, ready or expiry"

@@ -7,58 +7,50 @@ use Rattle.lines.specs.Lines.{ascii}
 use Rattle.signal.specs.declared.CauseCode.{CauseCode}
 use Rattle.signal.specs.declared.CauseCode.the-variants.{Section66, CallRejected}
 use Rattle.signal.specs.declared.Kind.{Kind}
-use Rattle.signal.specs.declared.Kind.the-variants.{NoSignal, TimerStart, TimerStop, Switch, CallingRelease, IncumbentRelease, ReroutingRelease, SetupRequest, ConnectRequest, Rejection}
+use Rattle.signal.specs.declared.Kind.the-variants.{NoSignal, TimerStart, TimerStop, Switch, CallingRelease, IncumbentRelease}
+use Rattle.signal.specs.declared.Kind.the-variants.{ReroutingRelease, SetupRequest, ConnectRequest, Rejection}
 use Rattle.signal.specs.declared.SentCause.{SentCause}
 use Rattle.signal.specs.declared.SentCause.the-variants.{Absent, Numbered, AsReceived}
 use Rattle.signal.specs.declared.Signal.{Signal}
+use Rattle.signal.specs.Signals.{places}
 use Rattle.signal_words.specs.Words.{signalsText}
 
--- four signals, and what is printed of them
-pub record Told : Type 0 where
+-- signals in the first of the four places, and what is printed of the four
+pub record Sample : Type 0 where
   pub signals : List Signal
   pub shown : String
 
-abbrev pub told : List Signal → String → Told
-told signals shown = record { signals = signals; shown = shown }
+abbrev pub sample : List Signal → String → Sample
+sample signals shown = record { signals = places signals; shown = shown }
 
 abbrev pub signal : Kind → ℕ → SentCause → CauseCode → Signal
 signal kind connection cause code = record { kind = kind; connection = connection; cause = cause; code = code }
 
-abbrev pub nothing : Signal
-nothing = signal NoSignal 0 Absent Section66
-
--- a signal in the first place, and one in each of two places
-abbrev pub alone : Signal → List Signal
-alone s = s ∷ nothing ∷ nothing ∷ nothing ∷ []
-
-abbrev pub both : Signal → Signal → List Signal
-both s t = s ∷ t ∷ nothing ∷ nothing ∷ []
-
 -- the ten kinds (01, "Signals"; decision 16), those that name a connection with one; the calling side, the timer and a reject have none
-abbrev pub kinds : List Told
+abbrev pub kinds : List Sample
 kinds =
-    told (alone nothing) "-"
-    ∷ told (alone (signal TimerStart 0 Absent Section66)) "timer start"
-    ∷ told (alone (signal TimerStop 0 Absent Section66)) "timer stop"
-    ∷ told (alone (signal Switch 12 Absent Section66)) "switch 12"
-    ∷ told (alone (signal CallingRelease 0 Absent Section66)) "release calling"
-    ∷ told (alone (signal IncumbentRelease 34 Absent Section66)) "release incumbent 34"
-    ∷ told (alone (signal ReroutingRelease 56 Absent Section66)) "release rerouting 56"
-    ∷ told (alone (signal SetupRequest 78 Absent Section66)) "setup 78"
-    ∷ told (alone (signal ConnectRequest 90 Absent Section66)) "connect 90"
-    ∷ told (alone (signal Rejection 0 Absent Section66)) "reject"
+    sample [] "-"
+    ∷ sample (signal TimerStart 0 Absent Section66 ∷ []) "timer start"
+    ∷ sample (signal TimerStop 0 Absent Section66 ∷ []) "timer stop"
+    ∷ sample (signal Switch 12 Absent Section66 ∷ []) "switch 12"
+    ∷ sample (signal CallingRelease 0 Absent Section66 ∷ []) "release calling"
+    ∷ sample (signal IncumbentRelease 34 Absent Section66 ∷ []) "release incumbent 34"
+    ∷ sample (signal ReroutingRelease 56 Absent Section66 ∷ []) "release rerouting 56"
+    ∷ sample (signal SetupRequest 78 Absent Section66 ∷ []) "setup 78"
+    ∷ sample (signal ConnectRequest 90 Absent Section66 ∷ []) "connect 90"
+    ∷ sample (signal Rejection 0 Absent Section66 ∷ []) "reject"
     ∷ []
 
 -- the Rerouting cause absent, a number, or as received; then the Cause code where it is #21; and two signals parted by a comma
-abbrev pub causes : List Told
+abbrev pub causes : List Sample
 causes =
-    told (alone (signal CallingRelease 0 (Numbered (record { number = 2 })) Section66)) "release calling #2"
-    ∷ told (alone (signal Rejection 0 (Numbered (record { number = 8 })) Section66)) "reject #8"
-    ∷ told (alone (signal IncumbentRelease 1 (AsReceived (record { number = 255 })) Section66)) "release incumbent 1 =255"
-    ∷ told (alone (signal ReroutingRelease 5 Absent CallRejected)) "release rerouting 5 cause 21"
-    ∷ told (alone (signal ReroutingRelease 5 (Numbered (record { number = 0 })) CallRejected)) "release rerouting 5 #0 cause 21"
-    ∷ told (both (signal TimerStop 0 Absent Section66) (signal Switch 9 Absent Section66)) "timer stop, switch 9"
-    ∷ told (both (signal Switch 4 Absent Section66) (signal IncumbentRelease 3 (Numbered (record { number = 4 })) Section66))
+    sample (signal CallingRelease 0 (Numbered (record { number = 2 })) Section66 ∷ []) "release calling #2"
+    ∷ sample (signal Rejection 0 (Numbered (record { number = 8 })) Section66 ∷ []) "reject #8"
+    ∷ sample (signal IncumbentRelease 1 (AsReceived (record { number = 255 })) Section66 ∷ []) "release incumbent 1 =255"
+    ∷ sample (signal ReroutingRelease 5 Absent CallRejected ∷ []) "release rerouting 5 cause 21"
+    ∷ sample (signal ReroutingRelease 5 (Numbered (record { number = 0 })) CallRejected ∷ []) "release rerouting 5 #0 cause 21"
+    ∷ sample (signal TimerStop 0 Absent Section66 ∷ signal Switch 9 Absent Section66 ∷ []) "timer stop, switch 9"
+    ∷ sample (signal Switch 4 Absent Section66 ∷ signal IncumbentRelease 3 (Numbered (record { number = 4 })) Section66 ∷ [])
     "switch 4, release incumbent 3 #4"
     ∷ []
 

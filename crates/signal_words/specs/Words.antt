@@ -6,7 +6,8 @@ use Rattle.lines.specs.Lines.{ascii, numberText}
 use Rattle.signal.specs.declared.CauseCode.{CauseCode}
 use Rattle.signal.specs.declared.CauseCode.the-variants.{Section66, CallRejected}
 use Rattle.signal.specs.declared.Kind.{Kind}
-use Rattle.signal.specs.declared.Kind.the-variants.{NoSignal, TimerStart, TimerStop, Switch, CallingRelease, IncumbentRelease, ReroutingRelease, SetupRequest, ConnectRequest, Rejection}
+use Rattle.signal.specs.declared.Kind.the-variants.{NoSignal, TimerStart, TimerStop, Switch, CallingRelease, IncumbentRelease}
+use Rattle.signal.specs.declared.Kind.the-variants.{ReroutingRelease, SetupRequest, ConnectRequest, Rejection}
 use Rattle.signal.specs.declared.SentCause.{SentCause}
 use Rattle.signal.specs.declared.SentCause.the-variants.{Absent, Numbered, AsReceived}
 use Rattle.signal.specs.declared.Signal.{Signal}
@@ -37,18 +38,18 @@ kindText ConnectRequest n = ascii "connect " ++ numberText n
 kindText Rejection n = ascii "reject"
 
 -- the Rerouting cause: `#` by number, `=` as received
-abbrev pub causeText : SentCause → List ℕ
-causeText Absent = []
-causeText (Numbered c) = ascii " #" ++ numberText (c .number)
-causeText (AsReceived c) = ascii " =" ++ numberText (c .number)
+abbrev pub sentCauseText : SentCause → List ℕ
+sentCauseText Absent = []
+sentCauseText (Numbered c) = ascii " #" ++ numberText (c .number)
+sentCauseText (AsReceived c) = ascii " =" ++ numberText (c .number)
 
 -- the Cause code, where it is #21
-abbrev pub codeText : CauseCode → List ℕ
-codeText Section66 = []
-codeText CallRejected = ascii " cause 21"
+abbrev pub causeCodeText : CauseCode → List ℕ
+causeCodeText Section66 = []
+causeCodeText CallRejected = ascii " cause 21"
 
 abbrev pub signalText : Signal → List ℕ
-signalText s = kindText (s .kind) (s .connection) ++ (causeText (s .cause) ++ codeText (s .code))
+signalText s = kindText (s .kind) (s .connection) ++ (sentCauseText (s .cause) ++ causeCodeText (s .code))
 
 -- a signal that is sent, parted by a comma from one that stands before it
 abbrev pub nextText : Bool → Signal → List ℕ

@@ -1,9 +1,10 @@
-// The four signals of an event in words, as the bench prints them: `-` where none is sent, else for instance `switch 4, release incumbent 3 #4`.
+// The four signals of an event in words, as the bench prints them: `-` where none is sent, else for instance `switch 4, release incumbent 3
+// #4`.
 ghost use mathlib.Core.Path.{_≡_};
 ghost use mathlib.Core.Bool.{_||_};
 ghost use mathlib.Core.List.{_++_};
 ghost use Rattle.lines.specs.Lines.{page, putText, numberText};
-ghost use Rattle.signal_words.specs.Words.{isSent, kindText, causeText, codeText, signalText, nextText, signalsText};
+ghost use Rattle.signal_words.specs.Words.{isSent, kindText, sentCauseText, causeCodeText, signalText, nextText, signalsText};
 use signal::CauseCode;
 use signal::Kind;
 use signal::SentCause;
@@ -64,7 +65,7 @@ fn put_kind(out: &mut [u8], at: usize, kind: Kind, connection: u16) -> usize
 
 // A cause by its number, or as received.
 fn put_cause(out: &mut [u8], at: usize, cause: SentCause) -> usize
-    ensures { λ r. ⌜ page (now (out .exit)) r ≡ putText (page (now (out .entry)) at) (causeText cause) ⌝ }
+    ensures { λ r. ⌜ page (now (out .exit)) r ≡ putText (page (now (out .entry)) at) (sentCauseText cause) ⌝ }
 {
     match cause {
         SentCause::Absent => at,
@@ -74,7 +75,7 @@ fn put_cause(out: &mut [u8], at: usize, cause: SentCause) -> usize
 }
 
 fn put_code(out: &mut [u8], at: usize, code: CauseCode) -> usize
-    ensures { λ r. ⌜ page (now (out .exit)) r ≡ putText (page (now (out .entry)) at) (codeText code) ⌝ }
+    ensures { λ r. ⌜ page (now (out .exit)) r ≡ putText (page (now (out .entry)) at) (causeCodeText code) ⌝ }
 {
     match code {
         CauseCode::Section66 => at,

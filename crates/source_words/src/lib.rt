@@ -1,4 +1,5 @@
-// A call's record as a line of numbers: key, hard, soft, state, incumbent, rerouting, last, remote; 0 for a connection that the state does not hold.
+// A call's record as a line of numbers: key, hard, soft, state, incumbent, rerouting, last, remote; 0 for a connection that the state does
+// not hold.
 ghost use mathlib.Core.Path.{_≡_};
 ghost use mathlib.Core.Bool.{cond};
 ghost use Rattle.lines.specs.Lines.{page, putText};

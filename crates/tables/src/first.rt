@@ -1,4 +1,5 @@
-// The records of a case, given to the entries that are under test: 64 of them to the one by value, any other number to the one that they are lent to.
+// The records of a case, given to the entries that are under test: 64 of them to the one by value, any other number to the one that they
+// are lent to.
 ghost use Prim.Native.Nat.{_≤_};
 ghost use mathlib.Core.Path.{_≡_};
 ghost use mathlib.Core.List.{_++_};
@@ -17,7 +18,8 @@ pub(crate) struct Held {
 
 fn handle_first(table: [Call; 1100], count: usize, key: u32, act: Act) -> Held
     requires { ⌜ count ≤ 1100 ⌝ }
-    ensures { λ r. ⌜ (r .done ≡ ranOf sourceHalf (take count table) key act .done) × (r .table ≡ tableOf sourceHalf (take count table) key act ++ drop count table) ⌝ }
+    ensures { λ r. ⌜ (r .done ≡ ranOf sourceHalf (take count table) key act .done)
+        × (r .table ≡ tableOf sourceHalf (take count table) key act ++ drop count table) ⌝ }
 {
     let mut t = table;
     let done = source_table::handle(&mut t[..count], key, act);

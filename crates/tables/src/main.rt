@@ -1,7 +1,7 @@
 // Reads cases from standard input, a table and an event each, and prints what becomes of each (docs/TABLES.md).
 //
-// `source_table::handle` decides every case, on exactly as many records as the case has, and `handle64` those of 64; the rest is reading and printing. `octets` reads a case, `first` gives
-// its records to the entry, and `print` says what came of it.
+// `source_table::handle` decides every case, on exactly as many records as the case has, and `handle64` those of 64; the rest is reading
+// and printing. `octets` reads a case, `first` gives its records to the entry, and `print` says what came of it.
 mod first;
 mod octets;
 mod print;
@@ -19,7 +19,8 @@ fn main() {
     }
 }
 
-// Reads a case, and prints what becomes of it. False where nothing more is to be read: at the end of the input, at a case that is bad, and where a write fails.
+// Reads a case, and prints what becomes of it. False where nothing more is to be read: at the end of the input, at a case that is bad, and
+// where a write fails.
 fn answer(number: u64, body: &mut [u8]) -> bool {
     let mut head = [0u8; 2];
     let got = io::read_full(STDIN_FILENO, &mut head);

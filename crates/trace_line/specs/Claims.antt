@@ -3,7 +3,7 @@ use Prim.Native.Nat.{ℕ}
 use mathlib.Core.Bool.{true}
 use mathlib.Core.List.{List, [], _∷_, _++_}
 use mathlib.Core.Path.{_≡_}
-use Rattle.lines.specs.Lines.{ascii}
+use Rattle.lines.specs.Lines.{ascii, newLine}
 use Rattle.signal.specs.declared.Answer.the-variants.{Done, NotHeld}
 use Rattle.signal.specs.declared.Kind.the-variants.{IncumbentRelease}
 use Rattle.signal.specs.declared.SentCause.the-variants.{Numbered}
@@ -17,7 +17,7 @@ use Rattle.trace_line.specs.Line.{firstLine, lineText}
 
 -- a line of its own
 abbrev pub line : List ℕ → List ℕ
-line text = text ++ (10 ∷ [])
+line text = text ++ newLine
 
 -- The first line is always the same bytes: of the trace as 01, "The trace", prints it, of the watch as docs/BENCH.md does.
 abbrev pub FirstLines : Type 0
@@ -34,8 +34,8 @@ allDifferent =
       signals = places [];
     }
 
--- As the twentieth record, in the order of 01, "The trace": record count, answer, state, incumbent, rerouting, incarnation number; and in the
--- watch the last number and the signals behind them.
+-- As the twentieth record, in the order of 01, "The trace": record count, answer, state, incumbent, rerouting, incarnation number; and in
+-- the watch the last number and the signals behind them.
 abbrev pub ColumnsInOrder : Type 0
 ColumnsInOrder =
     (lineText Trace 20 allDifferent ≡ line (ascii "20 107 7 21 22 23"))

@@ -1,7 +1,7 @@
 -- The lines of the trace (01, "The trace"), and of the watch, which shows two columns more. Assumes nothing.
 use Prim.Native.Nat.{ℕ}
 use mathlib.Core.List.{List, [], _∷_, _++_}
-use Rattle.lines.specs.Lines.{ascii, numberText}
+use Rattle.lines.specs.Lines.{ascii, numberText, newLine}
 use Rattle.signal.specs.declared.Answer.{Answer}
 use Rattle.signal.specs.Numbers.{answerNumber}
 use Rattle.signal_words.specs.Words.{signalsText}
@@ -16,12 +16,12 @@ abbrev pub fieldText : ℕ → List ℕ
 fieldText n = numberText n ++ (32 ∷ [])
 
 abbrev pub lastText : ℕ → List ℕ
-lastText n = numberText n ++ (10 ∷ [])
+lastText n = numberText n ++ newLine
 
 -- "The first line is always those fixed bytes"
 unfoldable pub firstLine : Columns → List ℕ
-firstLine Trace = ascii "line answer state incumbent rerouting number" ++ (10 ∷ [])
-firstLine Watch = ascii "line answer state incumbent rerouting number last signals" ++ (10 ∷ [])
+firstLine Trace = ascii "line answer state incumbent rerouting number" ++ newLine
+firstLine Watch = ascii "line answer state incumbent rerouting number last signals" ++ newLine
 
 -- "answer, state, incumbent, rerouting": 0 for a connection that the state does not hold
 unfoldable pub numbersText : Answer → State → List ℕ
@@ -30,7 +30,7 @@ numbersText a s = fieldText (answerNumber a) ++ (fieldText (stateNumber s) ++ (f
 -- the incarnation number; in the watch also the last number given, and the signals
 unfoldable pub restText : Columns → Outcome → List ℕ
 restText Trace o = lastText (o .call .remote)
-restText Watch o = fieldText (o .call .remote) ++ (fieldText (o .call .last) ++ (signalsText (o .signals) ++ (10 ∷ [])))
+restText Watch o = fieldText (o .call .remote) ++ (fieldText (o .call .last) ++ (signalsText (o .signals) ++ newLine))
 
 -- the line of a record: its count from 1, and the outcome with the call that is shown
 unfoldable pub lineText : Columns → ℕ → Outcome → List ℕ

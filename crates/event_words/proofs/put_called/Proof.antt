@@ -5,7 +5,9 @@ use Rattle.event_words.proofs.put_called.Statement.{statement}
 use Rattle.event_words.proofs.put_called.Tie as tie
 
 returns : tie.Need-returns
-returns c = and-then _ _ _ _ _ (c .before .before .before .before .before .before .before .before .before .before .put-then .ensures) (and-then _ _ _ _ _ (c .before .before .before .before .before .before .put-cause .ensures) (c .before .before .put-crankback .ensures))
+returns c =
+    and-then _ _ _ _ _ (c .before .before .before .before .before .before .before .before .before .before .put-then .ensures)
+    (and-then _ _ _ _ _ (c .before .before .before .before .before .before .put-cause .ensures) (c .before .before .put-crankback .ensures))
 
 pub put-called-spec : {M : Type 1} → statement M
 put-called-spec =

@@ -9,7 +9,10 @@ returns : tie.Need-returns
 returns c = rw (c .enum-told .given .1) (sym (put-none _))
 
 returns-2 : tie.Need-returns-2
-returns-2 c = rw (c .before .before .before .before .before .before .before .before .before .before .before .cause .given .1) (and-then _ _ _ _ _ (c .before .before .before .before .before .before .before .put-word .ensures) (c .before .before .put-then .ensures))
+returns-2 c =
+    rw (c .before .before .before .before .before .before .before .before .before .before .before .cause .given .1)
+    (and-then _ _ _ _ _ (c .before .before .before .before .before .before .before .put-word .ensures)
+    (c .before .before .put-then .ensures))
 
 pub put-cause-spec : {M : Type 1} → statement M
 put-cause-spec =

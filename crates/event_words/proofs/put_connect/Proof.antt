@@ -5,7 +5,8 @@ use Rattle.event_words.proofs.put_connect.Statement.{statement}
 use Rattle.event_words.proofs.put_connect.Tie as tie
 
 returns : tie.Need-returns
-returns c = and-then _ _ _ _ _ (c .before .before .before .before .before .before .put-then .ensures) (c .before .before .put-policy .ensures)
+returns c =
+    and-then _ _ _ _ _ (c .before .before .before .before .before .before .put-then .ensures) (c .before .before .put-policy .ensures)
 
 pub put-connect-spec : {M : Type 1} → statement M
 put-connect-spec =

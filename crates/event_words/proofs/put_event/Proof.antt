@@ -5,7 +5,9 @@ use Rattle.event_words.proofs.put_event.Statement.{statement}
 use Rattle.event_words.proofs.put_event.Tie as tie
 
 returns : tie.Need-returns
-returns c = and-then _ _ _ _ _ (c .before .before .before .before .before .before .before .before .before .before .put-name .ensures) (and-then _ _ _ _ _ (c .before .before .before .before .before .before .put-then .ensures) (c .before .before .put-rest .ensures))
+returns c =
+    and-then _ _ _ _ _ (c .before .before .before .before .before .before .before .before .before .before .put-name .ensures)
+    (and-then _ _ _ _ _ (c .before .before .before .before .before .before .put-then .ensures) (c .before .before .put-brought .ensures))
 
 pub put-event-spec : {M : Type 1} → statement M
 put-event-spec =

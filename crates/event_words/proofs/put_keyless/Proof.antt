@@ -5,7 +5,8 @@ use Rattle.event_words.proofs.put_keyless.Statement.{statement}
 use Rattle.event_words.proofs.put_keyless.Tie as tie
 
 returns : tie.Need-returns
-returns c = and-then _ _ _ _ _ (c .before .before .before .before .before .before .put-event-name .ensures) (c .before .before .put-values .ensures)
+returns c =
+    and-then _ _ _ _ _ (c .before .before .before .before .before .before .put-event-name .ensures) (c .before .before .put-values .ensures)
 
 pub put-keyless-spec : {M : Type 1} → statement M
 put-keyless-spec =

@@ -5,7 +5,8 @@ use Rattle.event_words.proofs.put_setup.Statement.{statement}
 use Rattle.event_words.proofs.put_setup.Tie as tie
 
 returns : tie.Need-returns
-returns c = and-then _ _ _ _ _ (c .before .before .before .before .before .before .put-code .ensures) (c .before .before .put-then .ensures)
+returns c =
+    and-then _ _ _ _ _ (c .before .before .before .before .before .before .put-switchover .ensures) (c .before .before .put-then .ensures)
 
 pub put-setup-spec : {M : Type 1} → statement M
 put-setup-spec =

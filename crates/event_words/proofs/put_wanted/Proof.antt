@@ -9,7 +9,9 @@ returns : tie.Need-returns
 returns c = rw (c .enum-told .given .1) (sym (put-none _))
 
 returns-2 : tie.Need-returns-2
-returns-2 c = rw (c .before .before .before .before .before .before .before .before .before .wanted .given .1) (and-then _ _ _ _ _ (c .before .before .before .before .before .before .put-hard .ensures) (c .before .before .put-soft .ensures))
+returns-2 c =
+    rw (c .before .before .before .before .before .before .before .before .before .wanted .given .1)
+    (and-then _ _ _ _ _ (c .before .before .before .before .before .before .put-hard .ensures) (c .before .before .put-soft .ensures))
 
 pub put-wanted-spec : {M : Type 1} → statement M
 put-wanted-spec =

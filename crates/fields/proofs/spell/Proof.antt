@@ -12,7 +12,9 @@ use Rattle.fields.proofs.spell.Statement.{statement}
 use Rattle.fields.proofs.spell.Tie as tie
 
 abbrev Inv-loop : tie.InvT-loop
-Inv-loop out₀ at count number place₀ rest₀ out place rest = (place ≤ count) × ((length out ≡ length out₀) × ((take at out ≡ take at out₀) × (digits 10 place rest ++ drop (at + place) out ≡ digits 10 count number ++ drop (at + count) out₀)))
+Inv-loop out₀ at count number place₀ rest₀ out place rest =
+    (place ≤ count) × ((length out ≡ length out₀) ×
+    ((take at out ≡ take at out₀) × (digits 10 place rest ++ drop (at + place) out ≡ digits 10 count number ++ drop (at + count) out₀)))
 
 abbrev μ-loop : tie.MeasureT-loop
 μ-loop out₀ at count number place₀ rest₀ out place rest = place
@@ -31,7 +33,8 @@ loop-again c =
       (
         simp length-set (l .inv .1 .0),
         (
-          take-set-le (a .at) (set (l .out) (a .at + l .place - 1) (48 + l .rest % 10)) (a .at + l .place - 2) (48 + l .rest / 10 % 10) (omega arith)
+          take-set-le (a .at) (set (l .out) (a .at + l .place - 1) (48 + l .rest % 10)) (a .at + l .place - 2) (48 + l .rest / 10 % 10)
+              (omega arith)
               ∙ (take-set-le (a .at) (l .out) (a .at + l .place - 1) (48 + l .rest % 10) (omega arith) ∙ l .inv .1 .1 .0),
           again-two (l .out) (a .at) (l .place) (l .rest) (c .loop-test .taken) (omega arith) ∙ l .inv .1 .1 .1,
         ),
@@ -45,7 +48,8 @@ returns : tie.Need-returns Inv-loop μ-loop
 returns c =
     let l = c .before .before .loop in
     let a = c .before .before .before .args in
-    finish-odd (l .out) (a .out .now) (a .at) (a .count) (a .number) (l .place) (l .rest) (c .if1 .taken) (omega arith) (omega arith) (l .inv .1 .1 .0) (l .inv .1 .1 .1)
+    finish-odd (l .out) (a .out .now) (a .at) (a .count) (a .number) (l .place) (l .rest) (c .if1 .taken) (omega arith) (omega arith)
+    (l .inv .1 .1 .0) (l .inv .1 .1 .1)
 
 same-length-2 : tie.Need-same-length-2 Inv-loop μ-loop
 same-length-2 c = c .before .before .loop .inv .1 .0

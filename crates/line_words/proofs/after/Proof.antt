@@ -5,7 +5,9 @@ use Rattle.line_words.proofs.after.Statement.{statement}
 use Rattle.line_words.proofs.after.Tie as tie
 
 returns : tie.Need-returns
-returns c = after-is (c .before .before .before .args .line .now) (c .before .before .before .args .at) (c .before .begin .result) _ (c .before .begin .ensures) (c .finish .ensures)
+returns c =
+    after-is (c .before .before .before .args .line .now) (c .before .before .before .args .at) (c .before .begin .result) _
+    (c .before .begin .ensures) (c .finish .ensures)
 
 pub after-spec : {M : Type 1} → statement M
 after-spec = tie.close (tie.spec (λ c κs. search needs) (λ c κs. search needs) returns)

@@ -16,13 +16,22 @@ abbrev μ-loop : tie.MeasureT-loop
 μ-loop line at place₀ place = length line - place
 
 returns : tie.Need-returns Inv-loop μ-loop
-returns c = stopped isOfWord (c .before .before .before .before .before .before .args .line .now) (c .before .before .before .before .loop .place) (c .before .before .before .before .before .before .args .at) (c .before .before .before .loop-test .taken) (sym (c .before .of-word .ensures) ∙ not-true _ (c .if1 .taken)) (c .before .before .before .before .loop .inv)
+returns c =
+    stopped isOfWord (c .before .before .before .before .before .before .args .line .now)
+    (c .before .before .before .before .loop .place) (c .before .before .before .before .before .before .args .at)
+    (c .before .before .before .loop-test .taken) (sym (c .before .of-word .ensures) ∙ not-true _ (c .if1 .taken))
+    (c .before .before .before .before .loop .inv)
 
 loop-again : tie.Need-loop-again Inv-loop μ-loop
-loop-again c = passed isOfWord (c .before .before .before .before .before .before .args .line .now) (c .before .before .before .before .loop .place) (c .before .before .before .before .before .before .args .at) (c .before .before .before .loop-test .taken) (sym (c .before .of-word .ensures) ∙ not-false _ (c .if1 .left)) (c .before .before .before .before .loop .inv)
+loop-again c =
+    passed isOfWord (c .before .before .before .before .before .before .args .line .now) (c .before .before .before .before .loop .place)
+    (c .before .before .before .before .before .before .args .at) (c .before .before .before .loop-test .taken)
+    (sym (c .before .of-word .ensures) ∙ not-false _ (c .if1 .left)) (c .before .before .before .before .loop .inv)
 
 returns-2 : tie.Need-returns-2 Inv-loop μ-loop
-returns-2 c = ran-out isOfWord (c .before .before .before .args .line .now) (c .before .loop .place) (c .before .before .before .args .at) (c .loop-test .left) (c .before .loop .inv)
+returns-2 c =
+    ran-out isOfWord (c .before .before .before .args .line .now) (c .before .loop .place) (c .before .before .before .args .at)
+    (c .loop-test .left) (c .before .loop .inv)
 
 pub finish-spec : {M : Type 1} → statement M
 finish-spec =

@@ -18,13 +18,23 @@ returns : tie.Need-returns Inv-loop μ-loop
 returns c = sym (other-length (c .before .args .word .now) (c .before .args .name .now) (c .if1 .taken))
 
 returns-2 : tie.Need-returns-2 Inv-loop μ-loop
-returns-2 c = differs (c .before .before .before .before .before .before .args .word .now) (c .before .before .before .before .before .before .args .name .now) (c .before .before .before .before .loop .index) (c .before .before .before .loop-test .taken) (c .before .before .before .before .before .if1 .left) (c .if2 .taken) (c .before .before .before .before .loop .inv)
+returns-2 c =
+    differs (c .before .before .before .before .before .before .args .word .now)
+    (c .before .before .before .before .before .before .args .name .now) (c .before .before .before .before .loop .index)
+    (c .before .before .before .loop-test .taken) (c .before .before .before .before .before .if1 .left) (c .if2 .taken)
+    (c .before .before .before .before .loop .inv)
 
 loop-again : tie.Need-loop-again Inv-loop μ-loop
-loop-again c = agrees (c .before .before .before .before .before .before .args .word .now) (c .before .before .before .before .before .before .args .name .now) (c .before .before .before .before .loop .index) (c .before .before .before .loop-test .taken) (c .before .before .before .before .before .if1 .left) (c .if2 .left) (c .before .before .before .before .loop .inv)
+loop-again c =
+    agrees (c .before .before .before .before .before .before .args .word .now)
+    (c .before .before .before .before .before .before .args .name .now) (c .before .before .before .before .loop .index)
+    (c .before .before .before .loop-test .taken) (c .before .before .before .before .before .if1 .left) (c .if2 .left)
+    (c .before .before .before .before .loop .inv)
 
 returns-3 : tie.Need-returns-3 Inv-loop μ-loop
-returns-3 c = agreed (c .before .before .before .args .word .now) (c .before .before .before .args .name .now) (c .before .loop .index) (c .loop-test .left) (c .before .before .if1 .left) (c .before .loop .inv)
+returns-3 c =
+    agreed (c .before .before .before .args .word .now) (c .before .before .before .args .name .now) (c .before .loop .index)
+    (c .loop-test .left) (c .before .before .if1 .left) (c .before .loop .inv)
 
 pub same-spec : {M : Type 1} → statement M
 same-spec =

@@ -6,7 +6,8 @@ use Rattle.script.proofs.main.Statement.{statement}
 use Rattle.script.proofs.main.Tie as tie
 
 abbrev Inv-loop : tie.InvT-loop
-Inv-loop input₀ line₀ records₀ progress₀ turns₀ input line records progress turns = (length input ≡ 65536) × ((length line ≡ 4096) × (length records ≡ 4096))
+Inv-loop input₀ line₀ records₀ progress₀ turns₀ input line records progress turns =
+    (length input ≡ 65536) × ((length line ≡ 4096) × (length records ≡ 4096))
 
 abbrev μ-loop : tie.MeasureT-loop
 μ-loop input₀ line₀ records₀ progress₀ turns₀ input line records progress turns = turns

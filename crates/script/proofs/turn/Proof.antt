@@ -7,7 +7,8 @@ use Rattle.script.proofs.turn.Statement.{statement}
 use Rattle.script.proofs.turn.Tie as tie
 
 abbrev Inv-loop : tie.InvT-loop
-Inv-loop input line₀ records₀ got count progress₀ index₀ line records progress index = (count ≤ length input) × ((length line ≡ length line₀) × (length records ≡ length records₀))
+Inv-loop input line₀ records₀ got count progress₀ index₀ line records progress index =
+    (count ≤ length input) × ((length line ≡ length line₀) × (length records ≡ length records₀))
 
 abbrev μ-loop : tie.MeasureT-loop
 μ-loop input line₀ records₀ got count progress₀ index₀ line records progress index = count - index

@@ -2,21 +2,32 @@
 use mathlib.Core.Path.{sym, _∙_}
 use borrow.Author.Needs.{needs}
 use Rattle.line_words.proofs.Laws.{behind}
-use Rattle.script_line.specs.Script.{callingOf}
+use Rattle.script_line.specs.Script.{readCalling}
 use Rattle.script_line.proofs.calling.Statement.{statement}
 use Rattle.script_line.proofs.calling.Tie as tie
 
 returns : tie.Need-returns
-unfolding callingOf
+unfolding readCalling
 returns c = rw (sym (c .before .is .ensures) ∙ c .if1 .taken)
 
 returns-2 : tie.Need-returns-2
-unfolding callingOf
-returns-2 c = rw (sym (c .before .before .before .before .before .before .is .ensures) ∙ c .before .before .before .before .before .if1 .left, sym (c .before .before .before .is2 .ensures) ∙ c .before .before .if2 .taken, sym (behind (c .before .before .before .before .before .before .before .before .before .args .line .now) (c .before .before .before .before .before .before .before .before .before .args .at) _ (c .before .after .ensures))) (c .calling-cause .ensures)
+unfolding readCalling
+returns-2 c =
+    rw (
+      sym (c .before .before .before .before .before .before .is .ensures) ∙ c .before .before .before .before .before .if1 .left,
+      sym (c .before .before .before .is2 .ensures) ∙ c .before .before .if2 .taken,
+      sym (behind (c .before .before .before .before .before .before .before .before .before .args .line .now)
+          (c .before .before .before .before .before .before .before .before .before .args .at) _ (c .before .after .ensures)),
+    )
+    (c .calling-cause .ensures)
 
 returns-3 : tie.Need-returns-3
-unfolding callingOf
-returns-3 c = rw (sym (c .before .before .before .before .is .ensures) ∙ c .before .before .before .if1 .left, sym (c .before .is2 .ensures) ∙ c .if2 .left)
+unfolding readCalling
+returns-3 c =
+    rw (
+      sym (c .before .before .before .before .is .ensures) ∙ c .before .before .before .if1 .left,
+      sym (c .before .is2 .ensures) ∙ c .if2 .left,
+    )
 
 pub calling-spec : {M : Type 1} → statement M
 calling-spec =

@@ -4,7 +4,7 @@ use native.Mathlib.Omega.{arith}
 use borrow.Author.Needs.{needs}
 use Rattle.line_words.proofs.Laws.{behind}
 use Rattle.line_words.proofs.Numbers.{at-most}
-use Rattle.script_line.specs.Script.{callingCauseOf}
+use Rattle.script_line.specs.Script.{readCallingCause}
 use Rattle.script_line.proofs.calling_cause.Statement.{statement}
 use Rattle.script_line.proofs.calling_cause.Tie as tie
 
@@ -12,12 +12,17 @@ cast-t9 : tie.Need-cast-t9
 cast-t9 c = omega (arith, at-most 255 _ _ (sym (c .before .before .before .number .ensures) ∙ c .before .cause .given .1))
 
 returns : tie.Need-returns
-unfolding callingCauseOf
+unfolding readCallingCause
 returns c = rw (sym (c .before .before .number .ensures) ∙ c .enum-told .given .1)
 
 returns-2 : tie.Need-returns-2
-unfolding callingCauseOf
-returns-2 c = rw (sym (c .before .before .before .before .before .number .ensures) ∙ c .before .before .before .cause .given .1, sym (behind (c .before .before .before .before .before .before .before .args .line .now) (c .before .before .before .before .before .before .before .args .at) _ (c .before .after .ensures))) (c .end .ensures)
+unfolding readCallingCause
+returns-2 c =
+    rw (
+      sym (c .before .before .before .before .before .number .ensures) ∙ c .before .before .before .cause .given .1,
+      sym (behind (c .before .before .before .before .before .before .before .args .line .now)
+          (c .before .before .before .before .before .before .before .args .at) _ (c .before .after .ensures)),
+    ) (c .end .ensures)
 
 pub calling-cause-spec : {M : Type 1} → statement M
 calling-cause-spec =

@@ -4,20 +4,26 @@ use native.Mathlib.Omega.{arith}
 use borrow.Author.Needs.{needs}
 use Rattle.line_words.proofs.Laws.{behind}
 use Rattle.line_words.proofs.Numbers.{at-most}
-use Rattle.script_line.specs.Script.{connectOf}
+use Rattle.script_line.specs.Script.{readConnect}
 use Rattle.script_line.proofs.connect.Statement.{statement}
 use Rattle.script_line.proofs.connect.Tie as tie
 
 cast-policy : tie.Need-cast-policy
-cast-policy c = omega (arith, at-most 65535 _ _ (sym (c .before .before .before .before .number .ensures) ∙ c .before .before .connection .given .1))
+cast-policy c =
+    omega (arith, at-most 65535 _ _ (sym (c .before .before .before .before .number .ensures) ∙ c .before .before .connection .given .1))
 
 returns : tie.Need-returns
-unfolding connectOf
+unfolding readConnect
 returns c = rw (sym (c .before .before .number .ensures) ∙ c .enum-told .given .1)
 
 returns-2 : tie.Need-returns-2
-unfolding connectOf
-returns-2 c = rw (sym (c .before .before .before .before .before .number .ensures) ∙ c .before .before .before .connection .given .1, sym (behind (c .before .before .before .before .before .before .before .args .line .now) (c .before .before .before .before .before .before .before .args .at) _ (c .before .after .ensures))) (c .policy .ensures)
+unfolding readConnect
+returns-2 c =
+    rw (
+      sym (c .before .before .before .before .before .number .ensures) ∙ c .before .before .before .connection .given .1,
+      sym (behind (c .before .before .before .before .before .before .before .args .line .now)
+          (c .before .before .before .before .before .before .before .args .at) _ (c .before .after .ensures)),
+    ) (c .policy .ensures)
 
 pub connect-spec : {M : Type 1} → statement M
 connect-spec =

@@ -2,25 +2,46 @@
 use mathlib.Core.Path.{sym, _∙_}
 use borrow.Author.Needs.{needs}
 use Rattle.line_words.proofs.Laws.{behind}
-use Rattle.script_line.specs.Script.{crankbackOf}
+use Rattle.script_line.specs.Script.{readCrankback}
 use Rattle.script_line.proofs.crankback.Statement.{statement}
 use Rattle.script_line.proofs.crankback.Tie as tie
 
 returns : tie.Need-returns
-unfolding crankbackOf
+unfolding readCrankback
 returns c = rw (sym (c .before .is .ensures) ∙ c .if1 .taken)
 
 returns-2 : tie.Need-returns-2
-unfolding crankbackOf
-returns-2 c = rw (sym (c .before .before .before .before .before .before .is .ensures) ∙ c .before .before .before .before .before .if1 .left, sym (c .before .before .before .is2 .ensures) ∙ c .before .before .if2 .taken, sym (behind (c .before .before .before .before .before .before .before .before .before .args .line .now) (c .before .before .before .before .before .before .before .before .before .args .at) _ (c .before .after .ensures))) (c .end .ensures)
+unfolding readCrankback
+returns-2 c =
+    rw (
+      sym (c .before .before .before .before .before .before .is .ensures) ∙ c .before .before .before .before .before .if1 .left,
+      sym (c .before .before .before .is2 .ensures) ∙ c .before .before .if2 .taken,
+      sym (behind (c .before .before .before .before .before .before .before .before .before .args .line .now)
+          (c .before .before .before .before .before .before .before .before .before .args .at) _ (c .before .after .ensures)),
+    ) (c .end .ensures)
 
 returns-3 : tie.Need-returns-3
-unfolding crankbackOf
-returns-3 c = rw (sym (c .before .before .before .before .before .before .before .before .before .is .ensures) ∙ c .before .before .before .before .before .before .before .before .if1 .left, sym (c .before .before .before .before .before .before .is2 .ensures) ∙ c .before .before .before .before .before .if2 .left, sym (c .before .before .before .is3 .ensures) ∙ c .before .before .if3 .taken, sym (behind (c .before .before .before .before .before .before .before .before .before .before .before .before .args .line .now) (c .before .before .before .before .before .before .before .before .before .before .before .before .args .at) _ (c .before .after2 .ensures))) (c .end2 .ensures)
+unfolding readCrankback
+returns-3 c =
+    rw (
+      sym (c .before .before .before .before .before .before .before .before .before .is .ensures)
+          ∙ c .before .before .before .before .before .before .before .before .if1 .left,
+      sym (c .before .before .before .before .before .before .is2 .ensures) ∙ c .before .before .before .before .before .if2 .left,
+      sym (c .before .before .before .is3 .ensures) ∙ c .before .before .if3 .taken,
+      sym (behind (c .before .before .before .before .before .before .before .before .before .before .before .before .args .line .now)
+          (c .before .before .before .before .before .before .before .before .before .before .before .before .args .at) _
+          (c .before .after2 .ensures)),
+    ) (c .end2 .ensures)
 
 returns-4 : tie.Need-returns-4
-unfolding crankbackOf
-returns-4 c = rw (sym (c .before .before .before .before .before .before .before .is .ensures) ∙ c .before .before .before .before .before .before .if1 .left, sym (c .before .before .before .before .is2 .ensures) ∙ c .before .before .before .if2 .left, sym (c .before .is3 .ensures) ∙ c .if3 .left)
+unfolding readCrankback
+returns-4 c =
+    rw (
+      sym (c .before .before .before .before .before .before .before .is .ensures)
+          ∙ c .before .before .before .before .before .before .if1 .left,
+      sym (c .before .before .before .before .is2 .ensures) ∙ c .before .before .before .if2 .left,
+      sym (c .before .is3 .ensures) ∙ c .if3 .left,
+    )
 
 pub crankback-spec : {M : Type 1} → statement M
 crankback-spec =

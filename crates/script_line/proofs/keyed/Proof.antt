@@ -2,17 +2,22 @@
 use mathlib.Core.Path.{sym, _∙_}
 use borrow.Author.Needs.{needs}
 use Rattle.line_words.proofs.Laws.{behind}
-use Rattle.script_line.specs.Script.{keyedOf}
+use Rattle.script_line.specs.Script.{readKeyed}
 use Rattle.script_line.proofs.keyed.Statement.{statement}
 use Rattle.script_line.proofs.keyed.Tie as tie
 
 returns : tie.Need-returns
-unfolding keyedOf
+unfolding readKeyed
 returns c = rw (sym (c .before .before .number .ensures) ∙ c .enum-told .given .1)
 
 returns-2 : tie.Need-returns-2
-unfolding keyedOf
-returns-2 c = rw (sym (c .before .before .before .before .before .number .ensures) ∙ c .before .before .before .key .given .1, sym (behind (c .before .before .before .before .before .before .before .args .line .now) (c .before .before .before .before .before .before .before .args .at) _ (c .before .after .ensures))) (c .arguments .ensures)
+unfolding readKeyed
+returns-2 c =
+    rw (
+      sym (c .before .before .before .before .before .number .ensures) ∙ c .before .before .before .key .given .1,
+      sym (behind (c .before .before .before .before .before .before .before .args .line .now)
+          (c .before .before .before .before .before .before .before .args .at) _ (c .before .after .ensures)),
+    ) (c .arguments .ensures)
 
 pub keyed-spec : {M : Type 1} → statement M
 keyed-spec =

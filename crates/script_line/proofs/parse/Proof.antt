@@ -12,11 +12,22 @@ returns c = rw (sym (c .before .is .ensures) ∙ c .if1 .taken)
 
 returns-2 : tie.Need-returns-2
 unfolding parsedOf
-returns-2 c = rw (sym (c .before .before .before .before .is .ensures) ∙ c .before .before .before .if1 .left, sym (c .before .before .named .ensures) ∙ c .enum-told .given .1)
+returns-2 c =
+    rw (
+      sym (c .before .before .before .before .is .ensures) ∙ c .before .before .before .if1 .left,
+      sym (c .before .before .named .ensures) ∙ c .enum-told .given .1,
+    )
 
 returns-3 : tie.Need-returns-3
 unfolding parsedOf
-returns-3 c = rw (sym (c .before .before .before .before .before .before .before .is .ensures) ∙ c .before .before .before .before .before .before .if1 .left, sym (c .before .before .before .before .before .named .ensures) ∙ c .before .before .before .event .given .1, sym (behind (c .before .before .before .before .before .before .before .before .before .before .args .line .now) 0 _ (c .before .after .ensures))) (c .keyed .ensures)
+returns-3 c =
+    rw (
+      sym (c .before .before .before .before .before .before .before .is .ensures)
+          ∙ c .before .before .before .before .before .before .if1 .left,
+      sym (c .before .before .before .before .before .named .ensures) ∙ c .before .before .before .event .given .1,
+      sym (behind (c .before .before .before .before .before .before .before .before .before .before .args .line .now) 0 _
+          (c .before .after .ensures)),
+    ) (c .keyed .ensures)
 
 pub parse-spec : {M : Type 1} → statement M
 parse-spec =

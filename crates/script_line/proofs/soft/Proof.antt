@@ -2,25 +2,52 @@
 use mathlib.Core.Path.{sym, _∙_}
 use borrow.Author.Needs.{needs}
 use Rattle.line_words.proofs.Laws.{behind}
-use Rattle.script_line.specs.Script.{softOf}
+use Rattle.script_line.specs.Script.{readSoft}
 use Rattle.script_line.proofs.soft.Statement.{statement}
 use Rattle.script_line.proofs.soft.Tie as tie
 
 returns : tie.Need-returns
-unfolding softOf
-returns c = rw (sym (c .before .before .before .is .ensures) ∙ c .before .before .if1 .taken, sym (behind (c .before .before .before .before .before .before .args .line .now) (c .before .before .before .before .before .before .args .at) _ (c .before .after .ensures))) (c .services .ensures)
+unfolding readSoft
+returns c =
+    rw (
+      sym (c .before .before .before .is .ensures) ∙ c .before .before .if1 .taken,
+      sym (behind (c .before .before .before .before .before .before .args .line .now)
+          (c .before .before .before .before .before .before .args .at) _ (c .before .after .ensures)),
+    ) (c .services .ensures)
 
 returns-2 : tie.Need-returns-2
-unfolding softOf
-returns-2 c = rw (sym (c .before .before .before .before .before .before .is .ensures) ∙ c .before .before .before .before .before .if1 .left, sym (c .before .before .before .is2 .ensures) ∙ c .before .before .if2 .taken, sym (behind (c .before .before .before .before .before .before .before .before .before .args .line .now) (c .before .before .before .before .before .before .before .before .before .args .at) _ (c .before .after2 .ensures))) (c .services2 .ensures)
+unfolding readSoft
+returns-2 c =
+    rw (
+      sym (c .before .before .before .before .before .before .is .ensures) ∙ c .before .before .before .before .before .if1 .left,
+      sym (c .before .before .before .is2 .ensures) ∙ c .before .before .if2 .taken,
+      sym (behind (c .before .before .before .before .before .before .before .before .before .args .line .now)
+          (c .before .before .before .before .before .before .before .before .before .args .at) _ (c .before .after2 .ensures)),
+    )
+    (c .services2 .ensures)
 
 returns-3 : tie.Need-returns-3
-unfolding softOf
-returns-3 c = rw (sym (c .before .before .before .before .before .before .before .before .before .is .ensures) ∙ c .before .before .before .before .before .before .before .before .if1 .left, sym (c .before .before .before .before .before .before .is2 .ensures) ∙ c .before .before .before .before .before .if2 .left, sym (c .before .before .before .is3 .ensures) ∙ c .before .before .if3 .taken, sym (behind (c .before .before .before .before .before .before .before .before .before .before .before .before .args .line .now) (c .before .before .before .before .before .before .before .before .before .before .before .before .args .at) _ (c .before .after3 .ensures))) (c .services3 .ensures)
+unfolding readSoft
+returns-3 c =
+    rw (
+      sym (c .before .before .before .before .before .before .before .before .before .is .ensures)
+          ∙ c .before .before .before .before .before .before .before .before .if1 .left,
+      sym (c .before .before .before .before .before .before .is2 .ensures) ∙ c .before .before .before .before .before .if2 .left,
+      sym (c .before .before .before .is3 .ensures) ∙ c .before .before .if3 .taken,
+      sym (behind (c .before .before .before .before .before .before .before .before .before .before .before .before .args .line .now)
+          (c .before .before .before .before .before .before .before .before .before .before .before .before .args .at) _
+          (c .before .after3 .ensures)),
+    ) (c .services3 .ensures)
 
 returns-4 : tie.Need-returns-4
-unfolding softOf
-returns-4 c = rw (sym (c .before .before .before .before .before .before .before .is .ensures) ∙ c .before .before .before .before .before .before .if1 .left, sym (c .before .before .before .before .is2 .ensures) ∙ c .before .before .before .if2 .left, sym (c .before .is3 .ensures) ∙ c .if3 .left)
+unfolding readSoft
+returns-4 c =
+    rw (
+      sym (c .before .before .before .before .before .before .before .is .ensures)
+          ∙ c .before .before .before .before .before .before .if1 .left,
+      sym (c .before .before .before .before .is2 .ensures) ∙ c .before .before .before .if2 .left,
+      sym (c .before .is3 .ensures) ∙ c .if3 .left,
+    )
 
 pub soft-spec : {M : Type 1} → statement M
 soft-spec =

@@ -5,7 +5,8 @@ use Rattle.signal_words.proofs.put_numbered.Statement.{statement}
 use Rattle.signal_words.proofs.put_numbered.Tie as tie
 
 returns : tie.Need-returns
-returns c = and-then _ _ _ _ _ (c .before .before .before .before .before .before .put-word .ensures) (c .before .before .put-number .ensures)
+returns c =
+    and-then _ _ _ _ _ (c .before .before .before .before .before .before .put-word .ensures) (c .before .before .put-number .ensures)
 
 pub put-numbered-spec : {M : Type 1} → statement M
 put-numbered-spec =

@@ -5,7 +5,9 @@ use Rattle.signal_words.proofs.put_signal.Statement.{statement}
 use Rattle.signal_words.proofs.put_signal.Tie as tie
 
 returns : tie.Need-returns
-returns c = and-then _ _ _ _ _ (c .before .before .before .before .before .before .before .before .before .before .put-kind .ensures) (and-then _ _ _ _ _ (c .before .before .before .before .before .before .put-cause .ensures) (c .before .before .put-code .ensures))
+returns c =
+    and-then _ _ _ _ _ (c .before .before .before .before .before .before .before .before .before .before .put-kind .ensures)
+    (and-then _ _ _ _ _ (c .before .before .before .before .before .before .put-cause .ensures) (c .before .before .put-code .ensures))
 
 pub put-signal-spec : {M : Type 1} → statement M
 put-signal-spec =

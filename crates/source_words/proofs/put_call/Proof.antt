@@ -5,7 +5,14 @@ use Rattle.source_words.proofs.put_call.Statement.{statement}
 use Rattle.source_words.proofs.put_call.Tie as tie
 
 returns : tie.Need-returns
-returns c = and-then _ _ _ _ _ (c .before .before .before .before .before .before .before .before .before .before .before .before .before .before .before .before .before .before .before .before .put-number .ensures) (and-then _ _ _ _ _ (c .before .before .before .before .before .before .before .before .before .before .before .before .before .before .before .before .put-services .ensures) (and-then _ _ _ _ _ (c .before .before .before .before .before .before .before .before .before .before .before .before .put-connections .ensures) (and-then _ _ _ _ _ (c .before .before .before .before .before .before .before .put-further .ensures) (c .before .before .put-further2 .ensures))))
+returns c =
+    and-then _ _ _ _ _ (c .before .before .before .before .before .before .before .before .before .before .before .before .before
+    .before .before .before .before .before .before .before .put-number .ensures)
+    (and-then _ _ _ _ _ (c .before .before .before .before .before .before .before .before .before .before .before .before .before
+    .before .before .before .put-services .ensures)
+    (and-then _ _ _ _ _ (c .before .before .before .before .before .before .before .before .before .before .before .before
+    .put-connections .ensures) (and-then _ _ _ _ _ (c .before .before .before .before .before .before .before .put-further .ensures)
+    (c .before .before .put-further2 .ensures))))
 
 pub put-call-spec : {M : Type 1} → statement M
 put-call-spec =

@@ -6,7 +6,9 @@ use Rattle.source_words.proofs.put_further.Statement.{statement}
 use Rattle.source_words.proofs.put_further.Tie as tie
 
 returns : tie.Need-returns
-returns c = and-then _ _ _ _ _ (c .before .before .before .before .before .before .put-byte .ensures ∙ sym (put-one _ _)) (c .before .before .put-number .ensures)
+returns c =
+    and-then _ _ _ _ _ (c .before .before .before .before .before .before .put-byte .ensures ∙ sym (put-one _ _))
+    (c .before .before .put-number .ensures)
 
 pub put-further-spec : {M : Type 1} → statement M
 put-further-spec =

@@ -6,7 +6,10 @@ use Rattle.source_words.proofs.put_services.Statement.{statement}
 use Rattle.source_words.proofs.put_services.Tie as tie
 
 returns : tie.Need-returns
-returns c = and-then _ _ _ _ _ (known _ _ _ _ (c .before .before .before .before .before .before .before .before .bit .ensures) (c .before .before .before .before .before .before .before .put-further .ensures)) (known _ _ _ _ (c .before .before .before .number .ensures) (c .before .before .put-further2 .ensures))
+returns c =
+    and-then _ _ _ _ _ (known _ _ _ _ (c .before .before .before .before .before .before .before .before .bit .ensures)
+    (c .before .before .before .before .before .before .before .put-further .ensures))
+    (known _ _ _ _ (c .before .before .before .number .ensures) (c .before .before .put-further2 .ensures))
 
 pub put-services-spec : {M : Type 1} → statement M
 put-services-spec =

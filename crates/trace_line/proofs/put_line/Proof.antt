@@ -7,7 +7,9 @@ use Rattle.trace_line.proofs.put_line.Tie as tie
 
 returns : tie.Need-returns
 unfolding lineText
-returns c = and-then _ _ _ _ _ (c .before .before .before .before .before .before .before .before .before .before .put-count .ensures) (and-then _ _ _ _ _ (c .before .before .before .before .before .before .put-numbers .ensures) (c .before .before .put-rest .ensures))
+returns c =
+    and-then _ _ _ _ _ (c .before .before .before .before .before .before .before .before .before .before .put-count .ensures)
+    (and-then _ _ _ _ _ (c .before .before .before .before .before .before .put-numbers .ensures) (c .before .before .put-rest .ensures))
 
 pub put-line-spec : {M : Type 1} → statement M
 put-line-spec =

@@ -7,7 +7,19 @@ use Rattle.trace_line.proofs.put_numbers.Tie as tie
 
 returns : tie.Need-returns
 unfolding numbersText
-returns c = rw (← c .before .before .before .before .before .before .before .before .before .before .before .before .before .before .before .before .before .before .number .ensures, ← c .before .before .before .before .before .before .before .before .before .before .before .before .before .number2 .ensures, ← c .before .before .before .before .before .before .before .before .incumbent .ensures, ← c .before .before .before .rerouting .ensures) (and-then _ _ _ _ _ (c .before .before .before .before .before .before .before .before .before .before .before .before .before .before .before .before .before .put-field .ensures) (and-then _ _ _ _ _ (c .before .before .before .before .before .before .before .before .before .before .before .before .put-field2 .ensures) (and-then _ _ _ _ _ (c .before .before .before .before .before .before .before .put-field3 .ensures) (c .before .before .put-field4 .ensures))))
+returns c =
+    rw (
+      ← c .before .before .before .before .before .before .before .before .before .before .before .before .before .before .before
+          .before .before .before .number .ensures,
+      ← c .before .before .before .before .before .before .before .before .before .before .before .before .before .number2 .ensures,
+      ← c .before .before .before .before .before .before .before .before .incumbent .ensures,
+      ← c .before .before .before .rerouting .ensures,
+    )
+    (and-then _ _ _ _ _ (c .before .before .before .before .before .before .before .before .before .before .before .before .before
+    .before .before .before .before .put-field .ensures)
+    (and-then _ _ _ _ _ (c .before .before .before .before .before .before .before .before .before .before .before .before .put-field2
+    .ensures) (and-then _ _ _ _ _ (c .before .before .before .before .before .before .before .put-field3 .ensures)
+    (c .before .before .put-field4 .ensures))))
 
 pub put-numbers-spec : {M : Type 1} → statement M
 put-numbers-spec =

@@ -12,7 +12,14 @@ returns c = rw (c .before .before .before .before .enum-told .given .1) (c .befo
 
 returns-2 : tie.Need-returns-2
 unfolding restText
-returns-2 c = rw (c .before .before .before .before .before .before .before .before .before .before .before .before .before .before .before .before .before .enum-told2 .given .1) (and-then _ _ _ _ _ (c .before .before .before .before .before .before .before .before .before .before .before .before .before .before .before .put-field2 .ensures) (and-then _ _ _ _ _ (c .before .before .before .before .before .before .before .before .before .before .put-field3 .ensures) (and-then _ _ _ _ _ (c .before .before .before .before .before .before .put-signals .ensures) (c .before .before .put-byte .ensures ∙ sym (put-one _ _)))))
+returns-2 c =
+    rw (c .before .before .before .before .before .before .before .before .before .before .before .before .before .before .before
+    .before .before .enum-told2 .given .1) (and-then _ _ _ _ _
+    (c .before .before .before .before .before .before .before .before .before .before .before .before .before .before .before
+    .put-field2 .ensures) (and-then _ _ _ _ _
+    (c .before .before .before .before .before .before .before .before .before .before .put-field3 .ensures)
+    (and-then _ _ _ _ _ (c .before .before .before .before .before .before .put-signals .ensures)
+    (c .before .before .put-byte .ensures ∙ sym (put-one _ _)))))
 
 pub put-rest-spec : {M : Type 1} → statement M
 put-rest-spec =

@@ -5,7 +5,10 @@ use Rattle.script.proofs.print.put_expected.Statement.{statement}
 use Rattle.script.proofs.print.put_expected.Tie as tie
 
 returns : tie.Need-returns
-returns c = and-then _ _ _ _ _ (c .before .before .before .before .before .before .before .before .before .before .before .put-line .ensures) (and-then _ _ _ _ _ (c .before .before .before .before .before .before .before .put-what .ensures) (c .before .before .put-word .ensures))
+returns c =
+    and-then _ _ _ _ _ (c .before .before .before .before .before .before .before .before .before .before .before .put-line .ensures)
+    (and-then _ _ _ _ _ (c .before .before .before .before .before .before .before .put-what .ensures)
+    (c .before .before .put-word .ensures))
 
 pub put-expected-spec : {M : Type 1} → statement M
 put-expected-spec =

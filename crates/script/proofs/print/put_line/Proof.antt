@@ -5,7 +5,10 @@ use Rattle.script.proofs.print.put_line.Statement.{statement}
 use Rattle.script.proofs.print.put_line.Tie as tie
 
 returns : tie.Need-returns
-returns c = and-then _ _ _ _ _ (c .before .before .before .before .before .before .before .before .before .before .before .put-word .ensures) (and-then _ _ _ _ _ (c .before .before .before .before .before .before .before .put-number .ensures) (c .before .before .put-word2 .ensures))
+returns c =
+    and-then _ _ _ _ _ (c .before .before .before .before .before .before .before .before .before .before .before .put-word .ensures)
+    (and-then _ _ _ _ _ (c .before .before .before .before .before .before .before .put-number .ensures)
+    (c .before .before .put-word2 .ensures))
 
 pub put-line-spec : {M : Type 1} → statement M
 put-line-spec =

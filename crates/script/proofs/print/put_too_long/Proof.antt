@@ -5,7 +5,10 @@ use Rattle.script.proofs.print.put_too_long.Statement.{statement}
 use Rattle.script.proofs.print.put_too_long.Tie as tie
 
 returns : tie.Need-returns
-returns c = and-then _ _ _ _ _ (c .before .before .before .before .before .before .before .before .before .before .before .before .put-line .ensures) (and-then _ _ _ _ _ (c .before .before .before .before .before .before .before .put-word .ensures) (c .before .before .put-word2 .ensures))
+returns c =
+    and-then _ _ _ _ _ (c .before .before .before .before .before .before .before .before .before .before .before .before .put-line
+    .ensures) (and-then _ _ _ _ _ (c .before .before .before .before .before .before .before .put-word .ensures)
+    (c .before .before .put-word2 .ensures))
 
 pub put-too-long-spec : {M : Type 1} → statement M
 put-too-long-spec =

@@ -1,7 +1,7 @@
--- `put_rest` meets its contract. Assumes nothing.
+-- `put_brought` meets its contract. Assumes nothing.
 use borrow.Author.Needs.{needs}
-use Rattle.event_words.proofs.put_rest.Statement.{statement}
-use Rattle.event_words.proofs.put_rest.Tie as tie
+use Rattle.event_words.proofs.put_brought.Statement.{statement}
+use Rattle.event_words.proofs.put_brought.Tie as tie
 
 returns : tie.Need-returns
 returns c = rw (c .before .before .before .before .before .act .given .1) (c .before .before .put-wanted .ensures)
@@ -9,8 +9,8 @@ returns c = rw (c .before .before .before .before .before .act .given .1) (c .be
 returns-2 : tie.Need-returns-2
 returns-2 c = rw (c .before .before .before .before .before .act2 .given .1) (c .before .before .put-values .ensures)
 
-pub put-rest-spec : {M : Type 1} → statement M
-put-rest-spec =
+pub put-brought-spec : {M : Type 1} → statement M
+put-brought-spec =
     tie.close
     (tie.spec
     (λ c. search needs)
