@@ -1,8 +1,8 @@
 -- The handling of one event over a lent slice of records that reads each record once, for any record struct (S), key (N), view (P),
 -- event (E), the check's answer (O), outcome (G), answer (D), and any `survey`, `unique` and `decide`:
 --     fn handle(t: &mut [S], key: u32, e: E) -> D
---     { let mut keys = [0u32; COUNT]; let s = survey(t, key, &mut keys); let n = t.len(); let ok = unique(&keys, n); let d = decide(n,
---     s, ok, key, e); put(t, d.at, d.call); d.done }
+--     { let mut keys = [0u32; COUNT]; let s = survey(t, key, &mut keys); let n = t.len(); let ok = unique(&keys, n);
+--       let d = decide(n, s, ok, key, e); put(t, d.at, d.call); d.done }
 -- For the call of `survey` the table is lent as a `&` and the array as a `&mut`, each for a lifetime of its own; for the call of
 -- `unique` the array is lent as a `&`. It is `Handle.antt` but for the array.
 -- fitOf is what the check says of the keys that are set in COUNT zeros, by the crate's own word: fits-is.
@@ -48,7 +48,8 @@ use denote.Triple.Call.{calls-at}
 use denote.Triple.Clauses.{Ended, Clauses, closing, Lasts, ensured, lasts}
 use denote.Triple.Spec.{Meets, tripleOf}
 use Rattle.lent.specs.Search.{keysFrom}
-use Rattle.lent.proofs.Numbers.{big-lit, nv, zeros, zv, Ns, zeros-is, typed-is, numbers-in, numbers-out}
+use Rattle.lent.proofs.Numbers.{big-lit, zeros, zv, Ns, zeros-is}
+use Rattle.lent.proofs.ByValue.{arr, array-typed, array-in, array-out}
 use Rattle.lent.proofs.Record.{Plain, Values, typeOf, uint, Row, tyOf, struct, Field, Key}
 use Rattle.lent.proofs.Locals.{byValue, enters, leaves}
 use Rattle.lent.proofs.Ask.{taking, said, Asked, Asks, asks}
@@ -130,7 +131,7 @@ module _ (S : Row) (N : Key S) (P O E D : Plain) (G : Row) (atF : Field G (uint 
       x = outcome.x F 𝓤 H A W c
 
       abbrev n : ℕ
-      n = length (c .ys)
+      n = length (c .t .ys)
 
       abbrev s : Val
       s = outcome.s F 𝓤 H A W c
@@ -149,7 +150,7 @@ module _ (S : Row) (N : Key S) (P O E D : Plain) (G : Row) (atF : Field G (uint 
       room zs l = subst (Room u32) (sym l) roomy
 
       abbrev wrote : List ℕ
-      wrote = keysFrom (N .of) 0 none (c .ys)
+      wrote = keysFrom (N .of) 0 none (c .t .ys)
 
       -- the call of `survey`, for the lifetimes ν and ν′, under the names δ and δ′, with the array at the block l
       abbrev to-survey : ℕ → GName → ℕ → GName → ℕ → Survey 𝓤 H A .Ghost
@@ -193,7 +194,7 @@ module _ (S : Row) (N : Key S) (P O E D : Plain) (G : Row) (atF : Field G (uint 
           (Unique 𝓤 H A .pre (to-unique ν δ l zs))
       goes-unique ν δ l zs =
           qed W (‵ (flft (ν ∷ []) fullShare) ∷ ‵ (Looked ν δ l zs) ∷ []) ∵ nothing ! $ move ! (1 ∷ 0 ∷ []) $ join ! $
-          nothing ! $ owned ! usize (Is usize) (uint-makes 𝓤 H A W w64) n _ (refl, c .roomy .0) $ fjoin ! $ move ! (2 ∷ 0 ∷ []) $
+          nothing ! $ owned ! usize (Is usize) (uint-makes 𝓤 H A W w64) n _ (refl, c .t .roomy .0) $ fjoin ! $ move ! (2 ∷ 0 ∷ []) $
           fjoin ! $
           move ! (1 ∷ 0 ∷ []) $ join ! $ frame ! $ done !
 
@@ -206,10 +207,11 @@ module _ (S : Row) (N : Key S) (P O E D : Plain) (G : Row) (atF : Field G (uint 
       walk =
           qed W (outcome.Entry F 𝓤 H A W c) ∵ enter ! (𝓣 .C) (𝓣 .Λ) code (s ∷ vint w32 (c .key) ∷ c .ue ∷ []) _ $
           enters ! (λ l₀ l₁ l₂ l₃ l₄ l₅ l₆ l₇ l₈ l₉ l₁₀ l₁₁ l₁₂ l₁₃ l₁₄ l₁₅ l₁₆ l₁₇. params1 ! $
-          pass1 ! (init ! 32 refl (tt, (tt, (record { fits = c .roomy .0 }, tt)))) $
+          pass1 ! (init ! 32 refl (tt, (tt, (record { fits = c .t .roomy .0 }, tt)))) $
           pass1 ! (init ! 30 refl (tt, record { fits = c .key-fits })) $
           pass1 ! (init ! 28 refl (E .lawful 𝓤 H A W .typed (c .e) _ (c .is) .0)) $ pass0 ! $
-          assigns ! (rep ! count (lit ! tt)) (from ! (stop !)) (init ! 26 refl (typed-is count 𝓤 H A W none (zv count) (zeros-is count)))
+          assigns ! (rep ! count (lit ! tt)) (from ! (stop !))
+          (init ! 26 refl (array-typed (uint w32) count 𝓤 H A W none (zv count) (zeros-is count)))
           $
           move ! (37 ∷ []) $ fsplit ! $ move ! (1 ∷ []) $ let-go ! $ move ! (37 ∷ []) $ split ! $ move ! (1 ∷ []) $ let-go ! $
           -- [the token; what t owns; _17; …; _0; …]: t is lent as a `&`, for a lifetime ν of the call
@@ -221,7 +223,7 @@ module _ (S : Row) (N : Key S) (P O E D : Plain) (G : Row) (atF : Field G (uint 
           (from ! (stop !)) (init ! 16 refl (tt, (tt, (fits, tt)))) $
           rewrite ! 16 (λ (m : ℕ). ‵ (fat fullShare (sliceTy (numbers mut)) l₁₂ 0 (sliceVal (l₄, 0) m))) (sym len₀) refl $
           move ! (30 ∷ []) $ use1 W (‵ (arr-parts (shares u32) count .part fullShare none l₄ 0))
-          (numbers-in count 𝓤 H A W l₄ none (zv count) (zeros-is count)) $ fsplit ! $ let-go ! $
+          (array-in (uint w32) count 𝓤 H A W l₄ none (zv count) (zeros-is count)) $ fsplit ! $ let-go ! $
           use1 W (‵ (cells (in-memory u32) none l₄ 0)) (whole-in 𝓤 H A W u32 none l₄ 0) $
           lft-new ! tt (λ ν′. move ! (1 ∷ []) $
           use1 W (later (some (λ (δ′ : GName). ‵ (Keys ν′ δ′ l₄) ⊛ ‵ (flent (ν′ ∷ []) (Held u32 (length none) l₄ 0 δ′)))))
@@ -239,8 +241,8 @@ module _ (S : Row) (N : Key S) (P O E D : Plain) (G : Row) (atF : Field G (uint 
           split ! $ move ! (1 ∷ []) $
           use1 W (some (λ (ws : Lasts sended (ν ∷ [], (ν′ ∷ [], tt)) (x δ, (c .key, (ks l₄ δ′ none, tt)))). ‵
           (lasts sended (ν ∷ [], (ν′ ∷ [], tt)) (x δ, (c .key, (ks l₄ δ′ none, tt))) ws) ⊛ raw
-          (fact 𝓤 ((v ≡ scanOf (c .ys) (c .key)) × (ws .1 .1 .0 ≡ wrote))))) (id⊢ 𝓤 _) $ pick ! (λ ws.
-          split ! $ move ! (1 ∷ []) $ heard ! ((v ≡ scanOf (c .ys) (c .key)) × (ws .1 .1 .0 ≡ wrote)) (λ ev. fsplit ! $ let-go ! $
+          (fact 𝓤 ((v ≡ scanOf (c .t .ys) (c .key)) × (ws .1 .1 .0 ≡ wrote))))) (id⊢ 𝓤 _) $ pick ! (λ ws.
+          split ! $ move ! (1 ∷ []) $ heard ! ((v ≡ scanOf (c .t .ys) (c .key)) × (ws .1 .1 .0 ≡ wrote)) (λ ev. fsplit ! $ let-go ! $
           fsplit ! $
           let-go ! $ fsplit ! $ fsplit ! $ move ! (1 ∷ []) $ feqL ! (λ len₁. move ! (1 ∷ []) $ let-go ! $
           -- [the last keys; the tokens and the result; the array's lender's part; what t keeps; t; …]
@@ -256,7 +258,7 @@ module _ (S : Row) (N : Key S) (P O E D : Plain) (G : Row) (atF : Field G (uint 
           move ! (1 ∷ 2 ∷ []) $ outcome.returned F 𝓤 H A W c 𝓣 l₀ l₁ _ ν (
           -- [what t owns; the token; the keys; t; _9; _10; _17; …]
           assigns ! (of-opd ! (load ! (from ! (fld ! refl (stop !))) (look-in ! 3 (sub ! 1 refl (whole !))))) (from ! (stop !))
-          (init ! 26 refl (tt, record { fits = c .roomy .0 })) $
+          (init ! 26 refl (tt, record { fits = c .t .roomy .0 })) $
           assigns ! (addr ! (from ! (stop !))) (from ! (stop !)) (init ! 14 refl (tt, tt)) $
           assigns ! (agg ! (and-then ! (load ! (from ! (stop !)) (look ! 14 refl)) (and-then ! (big-lit ! fits) (no-more !))))
           (from ! (stop !)) (init ! 12 refl (tt, (tt, (fits, tt)))) $
@@ -283,13 +285,14 @@ module _ (S : Row) (N : Key S) (P O E D : Plain) (G : Row) (atF : Field G (uint 
           let-go ! $
           -- the lifetime is ended, and the array is its cell again
           lft-end ! tt $ lent-back ! tt $ fsplit ! $ let-go ! $ feqI ! ℕ (length (ws .1 .1 .0)) count (len₁ ∙ len₀) $ fjoin ! $
-          use1 W (given (Is (Ns count) (ws .1 .1 .0) (nv (ws .1 .1 .0) ∷ []))
-          (‵ (fat fullShare (tyArray (tyInt w32) count) l₄ 0 (nv (ws .1 .1 .0))))) (numbers-out count 𝓤 H A W l₄ (ws .1 .1 .0)) $
+          use1 W (given (Is (Ns count) (ws .1 .1 .0) (arr (uint w32) count (ws .1 .1 .0) ∷ []))
+          (‵ (fat fullShare (tyArray (tyInt w32) count) l₄ 0 (arr (uint w32) count (ws .1 .1 .0)))))
+          (array-out (uint w32) count 𝓤 H A W l₄ (ws .1 .1 .0)) $
           learn ! (λ _.
           -- [_4; what t owns; the token; t; _9; _10; _17; …]
           asks ! (fmOf 𝓤 H (W .laws) 𝓣) decides known-decide (n, (v, (ok, (c .key, (c .e, tt)))))
           (vint w64 n ∷ [], (w ∷ [], (w′ ∷ [], (vint w32 (c .key) ∷ [], (c .ue ∷ [], tt)))))
-          ((refl, c .roomy .0), (gv, (go, ((refl, c .key-fits), (c .is, tt)))))
+          ((refl, c .t .roomy .0), (gv, (go, ((refl, c .key-fits), (c .is, tt)))))
           (and-then ! (load ! (from ! (stop !)) (look ! 27 refl)) (and-then ! (load ! (from ! (stop !)) (look ! 29 refl))
           (and-then ! (load ! (from ! (stop !)) (look ! 25 refl)) (and-then ! (load ! (from ! (stop !)) (look ! 34 refl))
           (and-then ! (load ! (from ! (stop !)) (look ! 32 refl)) (no-more !)))))) (λ d u ed gu.
@@ -302,13 +305,13 @@ module _ (S : Row) (N : Key S) (P O E D : Plain) (G : Row) (atF : Field G (uint 
           leaves ! (_ ∷ _ ∷ []) (holds _ ∷ holds _ ∷ holds _ ∷ holds _ ∷ holds _ ∷ holds _ ∷ holds _ ∷ holds _ ∷ holds _ ∷ holds _
           ∷ holds _ ∷ holds _ ∷ holds _ ∷ holds _ ∷ holds _ ∷ holds _ ∷ holds _ ∷ holds _ ∷ []) [] refl $ by ! exits))))))))))))))))))))
         where
-          decided : (v : Values P) (ok : Values O) (d : G .type .D) (zs : List ℕ) → v ≡ scanOf (c .ys) (c .key) → zs ≡ wrote
+          decided : (v : Values P) (ok : Values O) (d : G .type .D) (zs : List ℕ) → v ≡ scanOf (c .t .ys) (c .key) → zs ≡ wrote
               → ok ≡ uniqueOf zs n
-              → d ≡ decideOf n v ok (c .key) (c .e) → d ≡ F .ranOf (c .ys) (c .key) (c .e)
+              → d ≡ decideOf n v ok (c .key) (c .e) → d ≡ F .ranOf (c .t .ys) (c .key) (c .e)
           decided v ok d zs ev ek ec ed =
-              let fit : ok ≡ fitOf (c .ys) = ec ∙ (ap (λ (us : List ℕ). uniqueOf us n) ek ∙ fits-is (c .ys)) in
+              let fit : ok ≡ fitOf (c .t .ys) = ec ∙ (ap (λ (us : List ℕ). uniqueOf us n) ek ∙ fits-is (c .t .ys)) in
               ed ∙ (ap (λ (r : Values P). decideOf n r ok (c .key) (c .e)) ev ∙ ap
-              (λ (ok : Values O). decideOf n (scanOf (c .ys) (c .key)) ok (c .key) (c .e)) fit)
+              (λ (ok : Values O). decideOf n (scanOf (c .t .ys) (c .key)) ok (c .key) (c .e)) fit)
 
     pub meets : Meets 𝓤 H A (handling S E D .signature) (WpFn 𝓤 H (𝓣 .C) (𝓣 .Λ) code) (closing 𝓤 H A (handling S E D) (clauses F 𝓤))
     meets = outcome.meets F 𝓤 H A W 𝓣 code walk

@@ -1,13 +1,14 @@
 -- The handling of one event over a lent slice of records, for any record struct (S), view (P), event (E), outcome (G, a struct with
 -- fields for the place, the record and the answer), answer (D), and any `scan` and `decide`:
---     fn handle(t: &mut [S], key: u32, e: E) -> D { let s = scan(t, key); let d = decide(t.len(), s, key, e); put(t, d.at, d.call);
---     d.done }
+--     fn handle(t: &mut [S], key: u32, e: E) -> D
+--     { let s = scan(t, key); let d = decide(t.len(), s, key, e); put(t, d.at, d.call); d.done }
 -- The table is lent as a `&` for the call of `scan`, for a lifetime that is made for it, and comes back; `decide` takes plain data;
 -- `put` takes the borrow for good.
 -- All that the proof knows of the three is that each meets its contract.
 --     names                    the names by which the crate calls `scan`, `decide` and `put`
---     code, ended, clauses     what a crate's generated `handle` computes to.        Scan, Decide, Put       the contracts of what it
---     calls.        meets       the theorem that a crate's proof cites
+--     code                     what a crate's generated `handle` computes to
+--     Scan                     the contract of `scan`; those of `decide` and `put` are `Asks decides` and Outcome's `Put`
+--     meets                    the theorem that a crate's proof cites
 -- Assumes nothing.
 use mathlib.Core.Path.{_≡_, refl, _∙_, ap}
 use mathlib.Core.Option.{some as holds}
@@ -111,15 +112,15 @@ module _ (S : Row) (P E D : Plain) (G : Row) (atF : Field G (uint w64)) (callF :
           move ! (2 ∷ 0 ∷ []) $ fjoin ! $ move ! (1 ∷ 0 ∷ []) $ join ! $ frame ! $ done !
 
       scan-said : (ν : ℕ) (δ : GName) (v : Values P)
-          → ent 𝓤 (ensured 𝓤 H A sended (sclauses 𝓤) (ν ∷ [], tt) (x δ, (c .key, tt)) tt v) (fact 𝓤 (v ≡ scanOf (c .ys) (c .key)))
+          → ent 𝓤 (ensured 𝓤 H A sended (sclauses 𝓤) (ν ∷ [], tt) (x δ, (c .key, tt)) tt v) (fact 𝓤 (v ≡ scanOf (c .t .ys) (c .key)))
       scan-said ν δ v = exE 𝓤 _ (λ ws. snd∗ 𝓤 (sem 𝓤 H A (lasts sended (ν ∷ [], tt) (x δ, (c .key, tt)) ws))
-          (fact 𝓤 (v ≡ scanOf (c .ys) (c .key))))
+          (fact 𝓤 (v ≡ scanOf (c .t .ys) (c .key))))
 
       walk : Walk F 𝓤 H A W c 𝓣 code
       walk =
           qed W (outcome.Entry F 𝓤 H A W c) ∵ enter ! (𝓣 .C) (𝓣 .Λ) code (s ∷ vint w32 (c .key) ∷ c .ue ∷ []) _ $
           enters ! (λ l₀ l₁ l₂ l₃ l₄ l₅ l₆ l₇ l₈ l₉ l₁₀ l₁₁. params1 ! $
-          pass1 ! (init ! 20 refl (tt, (tt, (record { fits = c .roomy .0 }, tt)))) $
+          pass1 ! (init ! 20 refl (tt, (tt, (record { fits = c .t .roomy .0 }, tt)))) $
           pass1 ! (init ! 18 refl (tt, record { fits = c .key-fits })) $
           pass1 ! (init ! 16 refl (E .lawful 𝓤 H A W .typed (c .e) _ (c .is) .0)) $ pass0 ! $
           move ! (25 ∷ []) $ fsplit ! $ move ! (1 ∷ []) $ let-go ! $ move ! (25 ∷ []) $ split ! $ move ! (1 ∷ []) $ let-go ! $
@@ -132,25 +133,25 @@ module _ (S : Row) (P E D : Plain) (G : Row) (atF : Field G (uint w64)) (callF :
           (λ w.
           use1 W (later (some (λ (v : Values P). ((‵ (flft (ν ∷ []) fullShare) ⊛ ‵ ftrue) ⊛ ‵ (typeOf P .own v (w ∷ []))) ⊛ raw
           (ensured 𝓤 H A sended (sclauses 𝓤) (ν ∷ [], tt) (x δ, (c .key, tt)) tt v)))) (id⊢ 𝓤 _) $ await ! tt $ pick ! (λ v.
-          split ! $ move ! (1 ∷ []) $ use1 W (raw (fact 𝓤 (v ≡ scanOf (c .ys) (c .key)))) (scan-said ν δ v) $
-          heard ! (v ≡ scanOf (c .ys) (c .key)) (λ ev. split ! $ move ! (1 ∷ []) $
+          split ! $ move ! (1 ∷ []) $ use1 W (raw (fact 𝓤 (v ≡ scanOf (c .t .ys) (c .key)))) (scan-said ν δ v) $
+          heard ! (v ≡ scanOf (c .t .ys) (c .key)) (λ ev. split ! $ move ! (1 ∷ []) $
           peeks ! (typeOf P) (Is (typeOf P)) (shows 𝓤 H A (typeOf P)) v (w ∷ []) (λ gv.
           land ! (from ! (stop !)) (init ! 18 refl (P .lawful 𝓤 H A W .typed v _ gv .0)) $ let-go ! $ split ! $ move ! (1 ∷ []) $
           let-go ! $
           outcome.returned F 𝓤 H A W c 𝓣 l₀ l₁ _ ν (
           -- [what t owns; the token; t; _6; _7; _11; …]
           assigns ! (of-opd ! (load ! (from ! (fld ! refl (stop !))) (look-in ! 2 (sub ! 1 refl (whole !))))) (from ! (stop !))
-          (init ! 11 refl (tt, record { fits = c .roomy .0 })) $
-          asks ! (fmOf 𝓤 H (W .laws) 𝓣) decides known-decide (length (c .ys), (v, (c .key, (c .e, tt))))
-          (vint w64 (length (c .ys)) ∷ [], (w ∷ [], (vint w32 (c .key) ∷ [], (c .ue ∷ [], tt))))
-          ((refl, c .roomy .0), (gv, ((refl, c .key-fits), (c .is, tt))))
+          (init ! 11 refl (tt, record { fits = c .t .roomy .0 })) $
+          asks ! (fmOf 𝓤 H (W .laws) 𝓣) decides known-decide (length (c .t .ys), (v, (c .key, (c .e, tt))))
+          (vint w64 (length (c .t .ys)) ∷ [], (w ∷ [], (vint w32 (c .key) ∷ [], (c .ue ∷ [], tt))))
+          ((refl, c .t .roomy .0), (gv, ((refl, c .key-fits), (c .is, tt))))
           (and-then ! (load ! (from ! (stop !)) (look ! 12 refl)) (and-then ! (load ! (from ! (stop !)) (look ! 18 refl))
           (and-then ! (load ! (from ! (stop !)) (look ! 22 refl)) (and-then ! (load ! (from ! (stop !)) (look ! 20 refl)) (no-more !)))))
           (λ d u ed gu.
           land ! (from ! (stop !)) (init ! 15 refl (LL.lawful (G .type) (G .laws) 𝓤 H A W .typed d _ gu .0)) $
           move ! (2 ∷ 7 ∷ 5 ∷ 0 ∷ 1 ∷ 15 ∷ 9 ∷ 24 ∷ []) $
           outcome.settles F 𝓤 H A W c 𝓣 l₀ l₁ _ (names .put) known-put 5 9 10 11 l₅ l₉ l₁₀ l₁₁ _ d u gu
-          (ed ∙ ap (λ (y : Values P). decideOf (length (c .ys)) y (c .key) (c .e)) ev) (refl, refl) (refl, refl) (λ zs y exits.
+          (ed ∙ ap (λ (y : Values P). decideOf (length (c .t .ys)) y (c .key) (c .e)) ev) (refl, refl) (refl, refl) (λ zs y exits.
           move ! (0 ∷ 1 ∷ 4 ∷ 10 ∷ 3 ∷ 11 ∷ 6 ∷ 12 ∷ 13 ∷ 14 ∷ 9 ∷ 15 ∷ 8 ∷ 16 ∷ 5 ∷ 17 ∷ 18 ∷ 19 ∷ 20 ∷ 21 ∷ 22 ∷ 23 ∷ 2 ∷ 24 ∷ 7 ∷ 25
           ∷ []) $
           leaves ! (_ ∷ _ ∷ []) (holds _ ∷ holds _ ∷ holds _ ∷ holds _ ∷ holds _ ∷ holds _ ∷ holds _ ∷ holds _ ∷ holds _ ∷ holds _

@@ -69,7 +69,7 @@ use denote.Exit.{yes, unchanged, each-of}
 use borrow.Table.Elements.{at as past, cut-app, join-app}
 use borrow.Rule.Array.Share.{room-take}
 use Rattle.lent.proofs.Sizes.{last-of, silent-of}
-use Rattle.lent.proofs.Record.{Plain, Row, tyOf, Values, typeOf, IsOf}
+use Rattle.lent.proofs.Record.{Plain, struct, Row, tyOf, Values, typeOf, IsOf}
 use Rattle.lent.proofs.Locals.{byValue, Standing, enters, leaves, at}
 use Rattle.lent.proofs.Ask.{taking}
 use Rattle.lent.proofs.Outcome.{rowTo, handling, handles}
@@ -253,14 +253,14 @@ module _ (S : Row) (E D Z : Plain) (count : ℕ) (fits : T (ltb count (2 ^ 64)))
           → Sq W Before (runs C Λ En (acts p many) (atRet En Post))
       runs-through (at₂, (at₃, (at₄, (at₅, (at₆, (at₇, (at₈, _))))))) counted ends =
           assigns ! (of-opd ! (load ! (from ! (stop !)) (look ! 0 refl))) (at ! at₄ (stop !))
-          (init ! 6 refl (array-typed S count 𝓤 H A W (ys ++ others) ux gx)) $
+          (init ! 6 refl (array-typed (struct S) count 𝓤 H A W (ys ++ others) ux gx)) $
           assigns ! (addr ! (at ! at₄ (stop !))) (at ! at₆ (stop !)) (init ! 4 refl (tt, tt)) $
           assigns ! (agg ! (and-then ! (load ! (at ! at₆ (stop !)) (look ! 4 refl)) (and-then ! counted (no-more !)))) (at ! at₇ (stop !))
           (init ! 3 refl (tt, (tt, (record { fits = gm }, tt)))) $
           rewrite ! 3 (λ (k : ℕ). ‵ (fat fullShare slice l₇ 0 (sliceVal (l₄, 0) k))) (sym len) refl $
           -- the array is its records in memory: those that are lent, and the others behind them
           move ! (6 ∷ []) $ use1 W (‵ (arr-parts (shares R) count .part fullShare (ys ++ others) l₄ 0))
-          (array-in S count 𝓤 H A W l₄ (ys ++ others) ux gx) $ fsplit ! $ let-go ! $
+          (array-in (struct S) count 𝓤 H A W l₄ (ys ++ others) ux gx) $ fsplit ! $ let-go ! $
           use1 W (‵ (cells (in-memory R) (ys ++ others) l₄ 0)) (whole-in 𝓤 H A W R (ys ++ others) l₄ 0) $
           use1 W (‵ (cells (in-memory R) ys l₄ 0) ⊛ ‵ (cells (in-memory R) others l₄ (past 0 (in-memory R .size) n)))
           (cut-app 𝓤 H A (in-memory R) ys others l₄ 0) $ split ! $
@@ -297,10 +297,10 @@ module _ (S : Row) (E D Z : Plain) (count : ℕ) (fits : T (ltb count (2 ^ 64)))
           use1 W (‵ (row R fullShare (zs .0 ++ others) l₄ 0)) (whole-out 𝓤 H A W R (zs .0 ++ others) l₄ 0) $
           feqI ! ℕ (length (zs .0 ++ others)) count (as-long (zs .0) l) $ fjoin ! $
           use1 W (given (Is Rs (zs .0 ++ others) (av S (zs .0 ++ others) ∷ [])) (‵ (fat fullShare α l₄ 0 (av S (zs .0 ++ others)))))
-          (array-out S count 𝓤 H A W l₄ (zs .0 ++ others)) $ learn ! (λ gz.
+          (array-out (struct S) count 𝓤 H A W l₄ (zs .0 ++ others)) $ learn ! (λ gz.
           -- [_4; _1; _0; _8; _7; _6; _5; the event; the key]
           assigns ! (of-opd ! (load ! (at ! at₄ (stop !)) (look ! 0 refl))) (at ! at₈ (stop !))
-          (init ! 3 refl (array-typed S count 𝓤 H A W (zs .0 ++ others) _ gz)) $
+          (init ! 3 refl (array-typed (struct S) count 𝓤 H A W (zs .0 ++ others) _ gz)) $
           assigns ! (agg ! (and-then ! (load ! (at ! at₈ (stop !)) (look ! 3 refl))
           (and-then ! (load ! (at ! at₅ (stop !)) (look ! 6 refl)) (no-more !)))) (from ! (stop !))
           (init ! 2 refl (subst (λ (u : Val). T (hasTy (Z .data′ .ty) u) × WT u) (sym (Y .value (zs .0 ++ others) r))
@@ -362,7 +362,7 @@ module _ (S : Row) (E D Z : Plain) (count : ℕ) (fits : T (ltb count (2 ^ 64)))
       walk-all =
           qed W (‵ ftrue ∷ ‵ (owns (Rs ∷ u32 ∷ typeOf E ∷ []) (args all-of-it count) (vals all-of-it count)) ∷ []) ∵
           enter ! (𝓣 .C) (𝓣 .Λ) (code all-of-it) (ux ∷ vint w32 key ∷ ue ∷ []) _ $
-          enters ! (λ l₀ l₁ l₂ l₃ l₄ l₅ l₆ l₇ l₈. params1 ! $ pass1 ! (init ! 14 refl (array-typed S count 𝓤 H A W xs ux gx)) $
+          enters ! (λ l₀ l₁ l₂ l₃ l₄ l₅ l₆ l₇ l₈. params1 ! $ pass1 ! (init ! 14 refl (array-typed (struct S) count 𝓤 H A W xs ux gx)) $
           pass1 ! (init ! 12 refl (tt, record { fits = gk })) $ pass1 ! (init ! 10 refl (E .lawful 𝓤 H A W .typed e _ ge .0)) $ pass0 ! $
           move ! (14 ∷ 16 ∷ 0 ∷ 2 ∷ 4 ∷ 6 ∷ 8 ∷ 10 ∷ 12 ∷ []) $
           runs-through 𝓤 H A W (𝓣 .C) (𝓣 .Λ) (fmOf 𝓤 H (W .laws) 𝓣) known xs [] count key e ux ue
@@ -383,7 +383,7 @@ module _ (S : Row) (E D Z : Plain) (count : ℕ) (fits : T (ltb count (2 ^ 64)))
           qed W (‵ ftrue ∷ ‵ (owns (Rs ∷ usize ∷ u32 ∷ typeOf E ∷ []) (args its-first m) (vals its-first m)) ∷ []) ∵
           enter ! (𝓣 .C) (𝓣 .Λ) (code its-first) (ux ∷ vint w64 m ∷ vint w32 key ∷ ue ∷ []) _ $
           enters ! (λ l₀ l₁ lₘ l₂ l₃ l₄ l₅ l₆ l₇ l₈. params1 ! $
-          pass1 ! (init ! 16 refl (array-typed S count 𝓤 H A W xs ux gx)) $ pass1 ! (init ! 14 refl (tt, record { fits = gm })) $
+          pass1 ! (init ! 16 refl (array-typed (struct S) count 𝓤 H A W xs ux gx)) $ pass1 ! (init ! 14 refl (tt, record { fits = gm })) $
           pass1 ! (init ! 12 refl (tt, record { fits = gk })) $ pass1 ! (init ! 10 refl (E .lawful 𝓤 H A W .typed e _ ge .0)) $ pass0 ! $
           move ! (16 ∷ 18 ∷ 0 ∷ 2 ∷ 4 ∷ 6 ∷ 8 ∷ 10 ∷ 12 ∷ 14 ∷ []) $
           runs-through 𝓤 H A W (𝓣 .C) (𝓣 .Λ) (fmOf 𝓤 H (W .laws) 𝓣) known (take m xs) (drop m xs) m key e ux ue

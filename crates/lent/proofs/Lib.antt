@@ -4,12 +4,13 @@ pub mod Locals
 pub mod Ask
 pub mod Search
 pub mod Put
-pub mod Find
 pub mod Lend
 pub mod Outcome
 pub mod ByValue
 pub mod HandleArray
 pub mod Handle
+pub mod Turn
+pub mod Find
 pub mod Reading
 pub mod Fold
 pub mod Survey

@@ -1,8 +1,8 @@
 -- How an event over a lent slice of records begins and ends, whatever decides it in between:
 --     fn handle(t: &mut [S], key: u32, e: E) -> D { …(&*t, …)…; let d = …; put(t, d.at, d.call); d.done }
 -- Handle and Event are walks of this form.
---     Form                 any record struct (S), event (E), answer (D) and outcome (G), a struct with fields for the place, the record
---     and the answer; and what comes out (ranOf)
+--     Form                 any record struct (S), event (E), answer (D) and outcome (G, a struct with fields for the place, the record
+--                          and the answer), and what comes out (ranOf)
 --     handling, handles    the contract of a function of such a table, key and event, of which HandleArray calls one
 --     clauses, Put         the form's own contract, and that of `put`
 --     Called               what it is called with, as a walk knows it
@@ -21,7 +21,7 @@ use mir.Syntax.{deref, copy}
 use mir.Syntax.{rvOpd, addrOf, aggregate, assign, seq, call, return}
 use mir.Val.{Val, vint, vptr}
 use base.Logic.{SProp, ent, emp, via, fst∗, id⊢}
-use base.Fml.{Lft, GName, Share, ftrue, fat, froom, flft}
+use base.Fml.{GName, ftrue, fat, froom, flft}
 use prog.Wp.{Heap, Env, spotOf, WpFn, Tables}
 use ghost.Atoms.{Atoms}
 use contract.Monad.{fact}
@@ -37,7 +37,7 @@ use denote.Laws.{Is, shows}
 use denote.Plain.{uint-vals, uint-tells, uint-makes, nothing-lawful}
 use denote.Builtin.{u32, usize, unit, SliceRefMutOf}
 use denote.Ref.{RefT, now}
-use denote.Slice.{sliceTy, sliceVal, MutSlice, ShrSlice, Room, slice-vals, mut-slice-tells, finally}
+use denote.Slice.{sliceTy, sliceVal, MutSlice, ShrSlice, slice-vals, mut-slice-tells, finally}
 use denote.Signature.{plain}
 use denote.Steps.{nothing, owned, peeks, heard, only}
 use denote.Struct.Declared as SD
@@ -50,7 +50,7 @@ use denote.Triple.Spec.{Meets, tripleOf}
 use denote.Triple.Walked.{says, Stays, gave-slice, stay-none, walkOf, ends-at, walked, goes-gave-slice, goes-none, walk-meets}
 use denote.Exit.{yes}
 use Rattle.lent.proofs.Sizes.{last-of, silent-of}
-use Rattle.lent.proofs.Lend.{LentShared, lends-shared, shared-back}
+use Rattle.lent.proofs.Lend.{Lent, lentBy, LentShared, lends-shared, shared-back}
 use Rattle.lent.proofs.Record.{Plain, Values, typeOf, IsOf, uint, Row, tyOf, struct, Field, as-read}
 use Rattle.lent.proofs.Record as Rec
 use Rattle.lent.proofs.Locals.{byValue, at}
@@ -91,19 +91,12 @@ abbrev pub form : (S : Row) (E D : Plain) (G : Row) → Field G (uint w64) → F
     → (List (S .type .D) → ℕ → Values E → G .type .D) → Form
 form S E D G a c d r = record { S = S; E = E; D = D; G = G; atF = a; callF = c; doneF = d; ranOf = r }
 
--- what it is called with: the table, lent for the lifetime κ at the place (b, o) under the name γ, the key, and the event with its
--- machine value
+-- what it is called with: the table, the key, and the event with its machine value
 pub record Called (S : Row) (E : Plain) : Type 0 where
-  pub κ : Lft
-  pub q : Share
-  pub b : ℕ
-  pub o : ℕ
-  pub γ : GName
-  pub ys : List (S .type .D)
+  pub t : Lent S
   pub key : ℕ
   pub e : Values E
   pub ue : Val
-  pub roomy : Room (SD.row (S .type)) (length ys)
   pub key-fits : key < 2 ^ 32
   pub is : IsOf E e ue
 
@@ -158,34 +151,35 @@ module _ (F : Form) where
   module _ {M : Type 1} (𝓤 : URA M) (H : Heap 𝓤) (A : Atoms 𝓤) (W : Given 𝓤 H A) (c : Called (F .S) (F .E)) where
     -- the borrow, under the name δ
     abbrev pub x : GName → RefT (List X)
-    x δ = record { ptr = (c .b, c .o); name = δ; now = c .ys }
+    x δ = record { ptr = (c .t .b, c .t .o); name = δ; now = c .t .ys }
 
     abbrev pub s : Val
-    s = sliceVal (c .b, c .o) (length (c .ys))
+    s = sliceVal (c .t .b, c .t .o) (length (c .t .ys))
 
-    abbrev pub args : Args (ended .signature) (c .κ, tt)
-    args = (x (c .γ), (c .key, (c .e, tt)))
+    abbrev pub args : Args (ended .signature) (c .t .κ, tt)
+    args = (x (c .t .γ), (c .key, (c .e, tt)))
 
-    abbrev pub vals : Vals (ended .signature) (c .κ, tt)
+    abbrev pub vals : Vals (ended .signature) (c .t .κ, tt)
     vals = (s ∷ [], (vint w32 (c .key) ∷ [], (c .ue ∷ [], tt)))
 
     -- what there is on entry, and what must be at the end
     abbrev pub Entry : List (Item 𝓤)
-    Entry = (‵ (flft (c .κ) (c .q)) ⊛ ‵ ftrue) ∷ ‵ (owns (MutSlice (named 0) (c .κ) R ∷ u32 ∷ typeOf (F .E) ∷ []) args vals) ∷ []
+    Entry = (‵ (flft (c .t .κ) (c .t .q)) ⊛ ‵ ftrue) ∷ ‵ (owns (MutSlice (named 0) (c .t .κ) R ∷ u32 ∷ typeOf (F .E) ∷ []) args vals) ∷ []
 
     abbrev pub Ends : Val → SProp 𝓤
-    Ends = walkOf 𝓤 H A ended stayed (clauses 𝓤) .post (((c .κ, tt), (c .q, tt), tt, args, vals), tt)
+    Ends = walkOf 𝓤 H A ended stayed (clauses 𝓤) .post (((c .t .κ, tt), (c .t .q, tt), tt, args, vals), tt)
 
     -- the answer and the last list are the outcome's
     abbrev Carried : F .G .type .D → List X → Type 0
-    Carried d zs = (F .doneF .of d ≡ F .doneF .of (F .ranOf (c .ys) (c .key) (c .e)))
-        × (zs ≡ settled (c .ys) (F .ranOf (c .ys) (c .key) (c .e)))
+    Carried d zs = (F .doneF .of d ≡ F .doneF .of (F .ranOf (c .t .ys) (c .key) (c .e)))
+        × (zs ≡ settled (c .t .ys) (F .ranOf (c .t .ys) (c .key) (c .e)))
 
-    pub exits : (d : F .G .type .D) (u : Val) (zs : List X) → Carried d zs → length zs ≡ length (c .ys) → IsOf (F .D) (F .doneF .of d) u
-        → ent 𝓤 (⋆ 𝓤 H A (‵ (flft (c .κ) (c .q)) ∷ ‵ (finally R (c .γ) zs) ∷ [])) (Ends u)
+    pub exits : (d : F .G .type .D) (u : Val) (zs : List X) → Carried d zs → length zs ≡ length (c .t .ys) → IsOf (F .D) (F .doneF .of d)
+        u
+        → ent 𝓤 (⋆ 𝓤 H A (‵ (flft (c .t .κ) (c .t .q)) ∷ ‵ (finally R (c .t .γ) zs) ∷ [])) (Ends u)
     exits d u zs told l gr =
-        qed W (‵ (flft (c .κ) (c .q)) ∷ ‵ (finally R (c .γ) zs) ∷ []) ∵
-        suffices ! _ (ends-at 𝓤 H A ended stayed (clauses 𝓤) W (((c .κ, tt), (c .q, tt), tt, args, vals), tt) u (F .doneF .of d)
+        qed W (‵ (flft (c .t .κ) (c .t .q)) ∷ ‵ (finally R (c .t .γ) zs) ∷ []) ∵
+        suffices ! _ (ends-at 𝓤 H A ended stayed (clauses 𝓤) W (((c .t .κ, tt), (c .t .q, tt), tt, args, vals), tt) u (F .doneF .of d)
         (zs, (tt, (last-of (typeOf (F .E) .exit yes) (F .E .still yes) (c .e), tt))) (l, (tt, (tt, tt)))) $ says ! told $
         nothing ! $ move ! (1 ∷ 0 ∷ []) $ join ! $ frame ! $ nothing ! $ owned ! (typeOf (F .E)) (Is (typeOf (F .E)))
         (F .E .makes 𝓤 H A W) (c .e) _ (c .is) $ fjoin ! $
@@ -193,22 +187,23 @@ module _ (F : Form) where
         owned ! (typeOf (F .D)) (Is (typeOf (F .D))) (F .D .makes 𝓤 H A W) (F .doneF .of d) _ gr $ done !
 
     -- the call of `put`: the borrow is given up for good
-    abbrev at-put : F .G .type .D → Args (put.ended (F .S) .signature) (c .κ, tt)
-    at-put d = (x (c .γ), (F .atF .of d, (F .callF .of d, tt)))
+    abbrev at-put : F .G .type .D → Args (put.ended (F .S) .signature) (c .t .κ, tt)
+    at-put d = (x (c .t .γ), (F .atF .of d, (F .callF .of d, tt)))
 
     abbrev to-put : F .G .type .D → Put 𝓤 H A .Ghost
     to-put d = (
-      ((c .κ, tt), (c .q, tt), tt, at-put d, (s ∷ [], (vint w64 (F .atF .of d) ∷ [], (Rec.mach (F .S) (F .callF .of d) ∷ [], tt)))),
+      ((c .t .κ, tt), (c .t .q, tt), tt, at-put d, (s ∷ [], (vint w64 (F .atF .of d) ∷ [], (Rec.mach (F .S) (F .callF .of d) ∷ [], tt)))),
       tt,
     )
 
     abbrev pub Own : Item 𝓤
-    Own = ‵ (MutSlice (named 0) (c .κ) R .own (x (c .γ)) (s ∷ []))
+    Own = ‵ (MutSlice (named 0) (c .t .κ) R .own (x (c .t .γ)) (s ∷ []))
 
-    goes-put : (d : F .G .type .D) → IsOf (struct (F .G)) d (Rec.mach (F .G) d) → ent 𝓤 (⋆ 𝓤 H A (‵ (flft (c .κ) (c .q)) ∷ Own ∷ []))
+    goes-put : (d : F .G .type .D) → IsOf (struct (F .G)) d (Rec.mach (F .G) d)
+        → ent 𝓤 (⋆ 𝓤 H A (‵ (flft (c .t .κ) (c .t .q)) ∷ Own ∷ []))
         (Put 𝓤 H A .pre (to-put d))
     goes-put d gd =
-        qed W (‵ (flft (c .κ) (c .q)) ∷ Own ∷ []) ∵ nothing ! $ move ! (1 ∷ 0 ∷ []) $ join ! $
+        qed W (‵ (flft (c .t .κ) (c .t .q)) ∷ Own ∷ []) ∵ nothing ! $ move ! (1 ∷ 0 ∷ []) $ join ! $
         nothing ! $ owned ! R (Is R) (LL.makes (F .S .type) (F .S .plain) 𝓤 H A) (F .callF .of d) _ (F .callF .is d gd) $ fjoin ! $
         owned ! usize (Is usize) (uint-makes 𝓤 H A W w64) (F .atF .of d) _ (F .atF .is d gd) $ fjoin ! $
         move ! (2 ∷ 0 ∷ []) $ fjoin ! $ move ! (1 ∷ 0 ∷ []) $ join ! $ frame ! $ done !
@@ -225,7 +220,7 @@ module _ (F : Form) where
       Room₂ μ lr li Δ = t ∷ ‵ (froom (refTo (F .S) erased μ) lr 0) ∷ ‵ (froom (rowTo (F .S) erased μ) li 0) ∷ Δ
 
       abbrev Held₂ : Mutability → ℕ → ℕ → List (Item 𝓤) → List (Item 𝓤)
-      Held₂ μ lr li Δ = t ∷ ‵ (fat fullShare (refTo (F .S) erased μ) lr 0 (vptr (c .b) (c .o)))
+      Held₂ μ lr li Δ = t ∷ ‵ (fat fullShare (refTo (F .S) erased μ) lr 0 (vptr (c .t .b) (c .t .o)))
           ∷ ‵ (fat fullShare (rowTo (F .S) erased μ) li 0 s) ∷ Δ
 
       abbrev Stand₂ : Mutability → ℕ → ℕ → ℕ → ℕ → Type 0
@@ -239,47 +234,49 @@ module _ (F : Form) where
           (init ! 1 refl (tt, tt)) $
           assigns ! (agg ! (and-then ! (load ! (at ! at-r (stop !)) (look ! 1 refl))
           (and-then ! (load ! (from ! (fld ! refl (stop !))) (look-in ! 0 (sub ! 1 refl (whole !)))) (no-more !)))) (at ! at-i (stop !))
-          (init ! 2 refl (tt, (tt, (record { fits = c .roomy .0 }, tt)))) $ k
+          (init ! 2 refl (tt, (tt, (record { fits = c .t .roomy .0 }, tt)))) $ k
 
       -- the table is lent as a `&`, for a lifetime ν of a call, under the name δ
       abbrev pub Shared : ℕ → GName → Item 𝓤
       Shared ν δ = ‵ (ShrSlice (named 0) (ν ∷ []) R .own (x δ) (s ∷ []))
 
       abbrev Kept : ℕ → Item 𝓤
-      Kept ν = ‵ (LentShared R (c .κ) (ν ∷ []) (c .q) (c .γ) (c .b) (c .o) (c .ys))
+      Kept ν = ‵ (LentShared R (c .t .κ) (ν ∷ []) (c .t .q) (c .t .γ) (c .t .b) (c .t .o) (c .t .ys))
 
       pub lends : (r i lr li : ℕ) (rest : Body) (Q : Post 𝓤 H) (Δ : List (Item 𝓤)) → Stand₂ imm r i lr li
           → ((ν : ℕ) (δ : GName) → Sq W (‵ (flft (ν ∷ []) fullShare) ∷ Shared ν δ ∷ Kept ν ∷ Held₂ imm lr li Δ)
           (runs (𝓣 .C) (𝓣 .Λ) En rest Q))
-          → Sq W (Room₂ imm lr li (Own ∷ ‵ (flft (c .κ) (c .q)) ∷ Δ)) (runs (𝓣 .C) (𝓣 .Λ) En (lending (F .S) r i rest) Q)
+          → Sq W (Room₂ imm lr li (Own ∷ ‵ (flft (c .t .κ) (c .t .q)) ∷ Δ)) (runs (𝓣 .C) (𝓣 .Λ) En (lending (F .S) r i rest) Q)
       lends r i lr li rest Q Δ st k =
-          borrows imm r i lr li rest Q (Own ∷ ‵ (flft (c .κ) (c .q)) ∷ Δ) st (lft-new ! tt (λ ν. move ! (4 ∷ 5 ∷ []) $
-          use2 W (later (some (λ (δ : GName). Shared ν δ ⊛ Kept ν))) (lends-shared R (c .κ) (ν ∷ []) (c .q) (c .γ) (c .b) (c .o) 𝓤 H A W
-          (named 0) (named 0) (c .ys)) $ await ! tt $ pick ! (λ δ. split ! $
+          borrows imm r i lr li rest Q (Own ∷ ‵ (flft (c .t .κ) (c .t .q)) ∷ Δ) st (lft-new ! tt (λ ν. move ! (4 ∷ 5 ∷ []) $
+          use2 W (later (some (λ (δ : GName). Shared ν δ ⊛ Kept ν))) (lends-shared R (c .t .κ) (ν ∷ []) (c .t .q) (c .t .γ) (c .t .b)
+          (c .t .o) 𝓤 H A W
+          (named 0) (named 0) (c .t .ys)) $ await ! tt $ pick ! (λ δ. split ! $
           move ! (2 ∷ 0 ∷ 1 ∷ []) $ k ν δ)))
 
       -- the lifetime is ended, and the table comes back as it was
-      pub returned : {Γ : List (Item 𝓤)} {b : Body} {Q : Post 𝓤 H} (ν : ℕ) → Sq W (Own ∷ ‵ (flft (c .κ) (c .q)) ∷ Γ)
+      pub returned : {Γ : List (Item 𝓤)} {b : Body} {Q : Post 𝓤 H} (ν : ℕ) → Sq W (Own ∷ ‵ (flft (c .t .κ) (c .t .q)) ∷ Γ)
           (runs (𝓣 .C) (𝓣 .Λ) En b Q) → Sq W (‵ (flft (ν ∷ []) fullShare) ∷ Kept ν ∷ Γ) (runs (𝓣 .C) (𝓣 .Λ) En b Q)
-      returned ν k = lft-end ! tt $ use2 W (later (Own ⊛ ‵ (flft (c .κ) (c .q)))) (shared-back R (c .κ) (ν ∷ []) (c .q) (c .γ) (c .b)
-          (c .o) 𝓤 H A W (named 0) (named 0) (c .ys) (c .roomy)) $ await ! tt $ split ! $ k
+      returned ν k = lft-end ! tt $ use2 W (later (Own ⊛ ‵ (flft (c .t .κ) (c .t .q)))) (shared-back R (c .t .κ) (ν ∷ []) (c .t .q)
+          (c .t .γ) (c .t .b)
+          (c .t .o) 𝓤 H A W (named 0) (named 0) (c .t .ys) (c .t .roomy)) $ await ! tt $ split ! $ k
 
       -- the outcome d, in local i, is carried out
       pub settles : (name : Name) → Triple 𝓤 (𝓣 .C name) (Put 𝓤 H A) → (i z r j li lz lr lj : ℕ) (Δ : List (Item 𝓤)) (d : F .G .type .D)
-          (u : Val) → IsOf (struct (F .G)) d u → d ≡ F .ranOf (c .ys) (c .key) (c .e)
+          (u : Val) → IsOf (struct (F .G)) d u → d ≡ F .ranOf (c .t .ys) (c .key) (c .e)
           → (spotOf 𝓤 H En i ≡ (tyOf (F .G), li, 0)) × (spotOf 𝓤 H En z ≡ (tyUnit, lz, 0)) → Stand₂ mut r j lr lj
-          → ((zs : List X) (v : Val) → ent 𝓤 (⋆ 𝓤 H A (‵ (flft (c .κ) (c .q)) ∷ ‵ (finally R (c .γ) zs) ∷ []))
+          → ((zs : List X) (v : Val) → ent 𝓤 (⋆ 𝓤 H A (‵ (flft (c .t .κ) (c .t .q)) ∷ ‵ (finally R (c .t .γ) zs) ∷ []))
           (Ends (F .D .val (F .doneF .of d)))
-          → Sq W (‵ (flft (c .κ) (c .q)) ∷ ‵ (finally R (c .γ) zs)
+          → Sq W (‵ (flft (c .t .κ) (c .t .q)) ∷ ‵ (finally R (c .t .γ) zs)
           ∷ Held₂ mut lr lj (‵ (fat fullShare (tyOf (F .G)) li 0 (Rec.mach (F .G) d)) ∷ ‵ (fat fullShare tyUnit lz 0 v)
           ∷ ‵ (fat fullShare (F .D .data′ .ty) l₀ 0 (F .D .val (F .doneF .of d))) ∷ Δ))
           (frees En (prop (Ends (F .D .val (F .doneF .of d))))))
-          → Sq W (Room₂ mut lr lj (Own ∷ ‵ (flft (c .κ) (c .q)) ∷ ‵ (fat fullShare (tyOf (F .G)) li 0 u) ∷ ‵ (froom tyUnit lz 0)
+          → Sq W (Room₂ mut lr lj (Own ∷ ‵ (flft (c .t .κ) (c .t .q)) ∷ ‵ (fat fullShare (tyOf (F .G)) li 0 u) ∷ ‵ (froom tyUnit lz 0)
           ∷ ‵ (froom (F .D .data′ .ty) l₀ 0) ∷ Δ)) (runs (𝓣 .C) (𝓣 .Λ) En (settling name i z r j) (atRet En Ends))
       settles name known i z r j li lz lr lj Δ d u gu ed (at-i, at-z) st k =
           let same : u ∷ [] ≡ LL.vals (F .G .type) (F .G .laws) d = LL.tells (F .G .type) (F .G .laws) d _ gu in
           let gd : IsOf (struct (F .G)) d (Rec.mach (F .G) d) = subst (Is (SD.row (F .G .type)) d) same gu in
-          borrows mut r j lr lj _ (atRet En Ends) (Own ∷ ‵ (flft (c .κ) (c .q)) ∷ ‵ (fat fullShare (tyOf (F .G)) li 0 u)
+          borrows mut r j lr lj _ (atRet En Ends) (Own ∷ ‵ (flft (c .t .κ) (c .t .q)) ∷ ‵ (fat fullShare (tyOf (F .G)) li 0 u)
           ∷ ‵ (froom tyUnit lz 0) ∷ ‵ (froom (F .D .data′ .ty) l₀ 0) ∷ Δ) st (
           rewrite ! 5 (λ (v : Val). ‵ (fat fullShare (tyOf (F .G)) li 0 v)) (ap only same) refl $
           move ! (4 ∷ 3 ∷ []) $ use2 W (raw (Put 𝓤 H A .pre (to-put d))) (goes-put d gd) $
@@ -289,12 +286,13 @@ module _ (F : Form) where
           (as-read ! (F .atF .value d) (look-in ! 4 (sub ! (F .atF .at) (F .atF .there) (whole !)))))
           (and-then ! (load ! (at ! at-i (fld ! (F .callF .there) (stop !)))
           (as-read ! (F .callF .value d) (look-in ! 4 (sub ! (F .callF .at) (F .callF .there) (whole !))))) (no-more !)))) (λ v.
-          use1 W (later (some (λ (y : Unit {0}). ((‵ (flft (c .κ) (c .q)) ⊛ ‵ ftrue) ⊛ ‵ (unit .own y (v ∷ []))) ⊛ raw
-          (ensured 𝓤 H A (put.ended (F .S)) (put.clauses (F .S) 𝓤) (c .κ, tt) (at-put d) tt y)))) (id⊢ 𝓤 _) $ await ! tt $ pick ! (λ y.
+          use1 W (later (some (λ (y : Unit {0}). ((‵ (flft (c .t .κ) (c .t .q)) ⊛ ‵ ftrue) ⊛ ‵ (unit .own y (v ∷ []))) ⊛ raw
+          (ensured 𝓤 H A (put.ended (F .S)) (put.clauses (F .S) 𝓤) (c .t .κ, tt) (at-put d) tt y)))) (id⊢ 𝓤 _) $ await ! tt $ pick ! (λ y.
           split ! $ move ! (1 ∷ []) $
-          use1 W (some (λ (zs : Lasts (put.ended (F .S)) (c .κ, tt) (at-put d)). ‵ (lasts (put.ended (F .S)) (c .κ, tt) (at-put d) zs) ⊛
-          raw (fact 𝓤 (zs .0 ≡ settled (c .ys) d)))) (id⊢ 𝓤 _) $ pick ! (λ zs.
-          split ! $ move ! (1 ∷ []) $ heard ! (zs .0 ≡ settled (c .ys) d) (λ ez. fsplit ! $ fsplit ! $ move ! (1 ∷ []) $
+          use1 W (some (λ (zs : Lasts (put.ended (F .S)) (c .t .κ, tt) (at-put d)). ‵ (lasts (put.ended (F .S)) (c .t .κ, tt) (at-put d)
+          zs) ⊛
+          raw (fact 𝓤 (zs .0 ≡ settled (c .t .ys) d)))) (id⊢ 𝓤 _) $ pick ! (λ zs.
+          split ! $ move ! (1 ∷ []) $ heard ! (zs .0 ≡ settled (c .t .ys) d) (λ ez. fsplit ! $ fsplit ! $ move ! (1 ∷ []) $
           feqL ! (λ l. move ! (1 ∷ []) $ let-go ! $
           -- [the last list; the tokens and the result of `put`; t; …]
           move ! (1 ∷ []) $ split ! $ move ! (1 ∷ []) $ peeks ! unit (Is unit) (shows 𝓤 H A unit) y (v ∷ []) (λ gz.
@@ -306,12 +304,12 @@ module _ (F : Form) where
           (init ! 7 refl (F .D .lawful 𝓤 H A W .typed (F .doneF .of d) _ (F .doneF .is d gd) .0)) $
           returns ! (look ! 7 refl) $
           k (zs .0) v
-          (exits d _ (zs .0) (ap (λ (g : F .G .type .D). F .doneF .of g) ed, ez ∙ ap (λ (g : F .G .type .D). settled (c .ys) g) ed) l
+          (exits d _ (zs .0) (ap (λ (g : F .G .type .D). F .doneF .of g) ed, ez ∙ ap (λ (g : F .G .type .D). settled (c .t .ys) g) ed) l
           (F .doneF .is d gd)))))))))
 
     -- ---- what is left to show of a function of the form
     abbrev pub Walk : Tables 𝓤 H → Fn → Type 1
-    Walk 𝓣 code = ent 𝓤 (onEntry 𝓤 H A (ended .signature) (c .κ, tt) (c .q, tt) args vals)
+    Walk 𝓣 code = ent 𝓤 (onEntry 𝓤 H A (ended .signature) (c .t .κ, tt) (c .t .q, tt) args vals)
         (WpFn 𝓤 H (𝓣 .C) (𝓣 .Λ) code (s ∷ vint w32 (c .key) ∷ c .ue ∷ []) Ends)
 
   pub meets : {M : Type 1} (𝓤 : URA M) (H : Heap 𝓤) (A : Atoms 𝓤) (W : Given 𝓤 H A) (𝓣 : Tables 𝓤 H) (code : Fn)
@@ -335,17 +333,10 @@ module _ (F : Form) where
       (λ κs. (mut-slice-tells (named 0) (κs .0) R, (uint-tells w32, (F .E .tells, tt))))
       (λ κs qs bounds a g are. via 𝓤 _ (fst∗ 𝓤 _ (emp 𝓤))
       (walk (record {
-        κ = κs .0;
-        q = qs .0;
-        b = a .0 .ptr .0;
-        o = a .0 .ptr .1;
-        γ = a .0 .name;
-        ys = a .0 .now;
+        t = lentBy (F .S) (κs .0) (qs .0) (a .0) (are .0 .0 .1);
         key = a .1 .0;
         e = a .1 .1 .0;
-        ue =
-            _;
-        roomy = are .0 .0 .1;
+        ue = _;
         key-fits = are .1 .0 .1;
         is = are .1 .1 .0;
       }))))
