@@ -14,7 +14,7 @@ use Rattle.events.specs.declared.Event.the-variants.{Trigger, PathFound, NoPath
 use Rattle.events.specs.declared.Act.{Act}
 use Rattle.events.specs.declared.Act.the-variants.{Opens, Meets}
 use Rattle.event_record.specs.Record.{octet, numberOf, decodedOf}
-use Rattle.event_record.specs.Encoded.{recordOf}
+use Rattle.event_record.specs.Encoded.{octetsWritten}
 use Rattle.event_record.specs.declared.Request.the-variants.{Bad, Asks}
 
 -- What each octet means, in the words of 01, "The trace": octets on the left, what they ask for on the right, and nothing of how they are
@@ -145,4 +145,4 @@ Fits key act = (key < 4294967296) × ActFits act
 
 -- Every event whose numbers fit comes back from its record as it was, with its key; a calling release has no crankback to lose.
 abbrev pub ReadBack : Type 0
-ReadBack = (key : ℕ) (act : Act) → Fits key act → decodedOf (recordOf key act) ≡ record { key = key; request = Asks act }
+ReadBack = (key : ℕ) (act : Act) → Fits key act → decodedOf (octetsWritten key act) ≡ record { key = key; request = Asks act }

@@ -59,5 +59,5 @@ actValues (Meets e) = eventValues e
 abbrev pub laidOut : ℕ → Values → List ℕ
 laidOut key v = v .kind ∷ v .first ∷ v .second ∷ v .third ∷ (fourOctets key ++ (fourOctets (v .number) ++ (0 ∷ 0 ∷ 0 ∷ 0 ∷ [])))
 
-abbrev pub recordOf : ℕ → Act → List ℕ
-recordOf key act = laidOut key (actValues act)
+abbrev pub octetsWritten : ℕ → Act → List ℕ
+octetsWritten key act = laidOut key (actValues act)

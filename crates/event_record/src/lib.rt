@@ -7,7 +7,7 @@ ghost use Rattle.event_record.specs.Places.{recordAt, restLength, restKe
 ghost use Rattle.event_record.specs.Record.{numberOf, softOf, crankbackOf, causeOf, openOf, connectOf, callingOf, calledOf, plainOf};
 ghost use Rattle.event_record.specs.Record.{requestOf, decodedOf};
 ghost use Rattle.event_record.specs.Encoded.{flagNumber, presentNumber, causeNumber, brought, openValues, eventValues, actValues};
-ghost use Rattle.event_record.specs.Encoded.{laidOut, recordOf};
+ghost use Rattle.event_record.specs.Encoded.{laidOut, octetsWritten};
 ghost use Prim.Native.Nat.{_+_, _≤_, _%_};
 ghost use Rattle.signal.specs.Numbers.{crankbackNumber};
 ghost use Rattle.events.specs.declared.Event.the-variants.{FromParty, FromDomain};
@@ -340,7 +340,7 @@ fn laid_out(key: u32, values: Values) -> [u8; 16]
 }
 
 pub fn encode(key: u32, act: Act) -> [u8; 16]
-    ensures { λ r. ⌜ r ≡ recordOf key act ⌝ }
+    ensures { λ r. ⌜ r ≡ octetsWritten key act ⌝ }
 {
     laid_out(key, act_values(act))
 }

@@ -1,4 +1,5 @@
 pub mod Law
+pub mod Admission
 pub mod Distinct
 pub mod Lines
 pub mod Signal

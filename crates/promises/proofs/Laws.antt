@@ -47,21 +47,21 @@ done-fit ys key act done = by-tests (fitTable ys) (eqb key 0) refl refl (sym (an
     by-tests false nought f n e = absurd (omega arith)
 
 -- what holds of each record holds of the one of a key that stands
-each-of : (P : Call → Type 0) (k : ℕ) (ys : List Call) → ((i : ℕ) → i < length ys → P (getD ys i emptied)) → table.onRecord k ys ≡ true →
+each-of : (P : Call → Type 0) (k : ℕ) (ys : List Call) → ((i : ℕ) → i < length ys → P (getD ys i emptied)) → table.hasCall k ys ≡ true →
     P (table.callOf k ys)
 each-of P k [] each h = absurd (false≢true h)
 each-of P k (c ∷ cs) each h = by-test (eqb (c .key) k) h (each-of P k cs (λ i l. each (suc i) (suc-le-suc l)))
   where
-    by-test : (b : Bool) → (b || table.onRecord k cs) ≡ true → (table.onRecord k cs ≡ true → P (table.callOf k cs)) →
+    by-test : (b : Bool) → (b || table.hasCall k cs) ≡ true → (table.hasCall k cs ≡ true → P (table.callOf k cs)) →
         P (cond b c (table.callOf k cs))
     by-test true t rest = each 0 (suc-le-suc zero-le)
     by-test false t rest = rest t
 
-key-of : (k : ℕ) (ys : List Call) → table.onRecord k ys ≡ true → table.callOf k ys .key ≡ k
+key-of : (k : ℕ) (ys : List Call) → table.hasCall k ys ≡ true → table.callOf k ys .key ≡ k
 key-of k ys h = has-key (source .key) emptied k ys h
 
 -- the call of a key that stands in a fit table is in use
-pub live-of : (k : ℕ) (ys : List Call) → (k ≡ 0 → ⊥) → fitTable ys ≡ true → table.onRecord k ys ≡ true →
+pub live-of : (k : ℕ) (ys : List Call) → (k ≡ 0 → ⊥) → fitTable ys ≡ true → table.hasCall k ys ≡ true →
     isNull (table.callOf k ys .state) ≡ false
 live-of k ys named fit h =
     each-of table.FitRecord k ys (fit-exactly ys .0 fit .each) h .used (λ nought. named (sym (key-of k ys h) ∙ nought)) .live
@@ -69,7 +69,7 @@ live-of k ys named fit h =
 -- ---- openings
 pub opening-law : (ys : List Call) (k : ℕ) (w : Wanted) → table.answered sourceHalf ys k (Opens w) ≡ 0 → Opened source ys k (ours ys (record { key = k; does = opens w }))
 opening-law ys k w done =
-    let found = by-tests (table.onRecord k ys) (table.onRecord 0 ys) refl refl (done-fit ys k (Opens w) done .1 .1) in
+    let found = by-tests (table.hasCall k ys) (table.hasCall 0 ys) refl refl (done-fit ys k (Opens w) done .1 .1) in
     record {
       call = openedFor k w .call;
       own = refl;
@@ -81,19 +81,19 @@ opening-law ys k w done =
       quiet = opening-takes-its-record ys k w done .1;
     }
   where
-    by-tests : (here free : Bool) → table.onRecord k ys ≡ here → table.onRecord 0 ys ≡ free → _≡_ {A = ℕ} (cond here 103 (cond (not free) 104 0)) 0 →
-        (table.onRecord k ys ≡ false) × (table.onRecord 0 ys ≡ true)
+    by-tests : (here free : Bool) → table.hasCall k ys ≡ here → table.hasCall 0 ys ≡ free → _≡_ {A = ℕ} (cond here 103 (cond (not free) 104 0)) 0 →
+        (table.hasCall k ys ≡ false) × (table.hasCall 0 ys ≡ true)
     by-tests false true h f e = (h, f)
     by-tests false false h f e = absurd (omega arith)
     by-tests true free h f e = absurd (omega arith)
 
 -- ---- events
 standing : (ys : List Call) (k : ℕ) (e : Event) → table.answerFor sourceHalf ys k (Meets e) ≡ 0 →
-    (table.onRecord k ys ≡ true) × (answerNumber (eventOf (table.callOf k ys) e .answer) ≡ 0)
-standing ys k e done = by-test (table.onRecord k ys) refl done
+    (table.hasCall k ys ≡ true) × (answerNumber (eventOf (table.callOf k ys) e .answer) ≡ 0)
+standing ys k e done = by-test (table.hasCall k ys) refl done
   where
-    by-test : (here : Bool) → table.onRecord k ys ≡ here → cond (not here) 105 (answerNumber (eventOf (table.callOf k ys) e .answer)) ≡ 0 →
-        (table.onRecord k ys ≡ true) × (answerNumber (eventOf (table.callOf k ys) e .answer) ≡ 0)
+    by-test : (here : Bool) → table.hasCall k ys ≡ here → cond (not here) 105 (answerNumber (eventOf (table.callOf k ys) e .answer)) ≡ 0 →
+        (table.hasCall k ys ≡ true) × (answerNumber (eventOf (table.callOf k ys) e .answer) ≡ 0)
     by-test true h d = (h, d)
     by-test false h d = absurd (omega arith)
 

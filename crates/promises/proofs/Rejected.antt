@@ -91,18 +91,18 @@ wanted-unsupported : (c : Call) (code : Switchover) (number : ℕ) → c .soft �
 wanted-unsupported c code number symmetric live other = rw (setup-means c code number symmetric live, other)
 
 -- a record replaced by itself
-replaced-self : (k : ℕ) (ys : List Call) → table.replacedFor k (table.callOf k ys) ys ≡ ys
+replaced-self : (k : ℕ) (ys : List Call) → table.callReplaced k (table.callOf k ys) ys ≡ ys
 replaced-self k [] = refl
 replaced-self k (c ∷ cs) = by-test (eqb (c .key) k) (replaced-self k cs)
   where
-    by-test : (b : Bool) → table.replacedFor k (table.callOf k cs) cs ≡ cs →
-        cond b (cond b c (table.callOf k cs) ∷ cs) (c ∷ table.replacedFor k (cond b c (table.callOf k cs)) cs) ≡ c ∷ cs
+    by-test : (b : Bool) → table.callReplaced k (table.callOf k cs) cs ≡ cs →
+        cond b (cond b c (table.callOf k cs) ∷ cs) (c ∷ table.callReplaced k (cond b c (table.callOf k cs)) cs) ≡ c ∷ cs
     by-test true rest = refl
     by-test false rest = ap (λ t. c ∷ t) rest
 
 -- over a fit table, a setup whose rejection is wanted is answered 0 with it, and changes no record
 turned-away : (ys : Table source) (k : ℕ) (code : Switchover) (number : ℕ) (r : Signal) → table.FitTable ys → (k ≡ 0 → ⊥) →
-    table.onRecord k ys ≡ true →
+    table.hasCall k ys ≡ true →
     rejectionWanted sourceDemands (standing (table.callOf k ys)) (Setup code number) ≡ r ∷ [] →
     (table.answered sourceHalf ys k (Meets (Setup code number)) ≡ 0)
     × ((ranOf sourceHalf ys k (Meets (Setup code number)) .done .signals ≡ places (r ∷ [])) × (tableOf sourceHalf ys k (Meets (Setup code number)) ≡ ys))
@@ -111,7 +111,7 @@ turned-away ys k code number r fit named here wanted =
     let done : table.answered sourceHalf ys k (Meets (Setup code number)) ≡ 0 =
     answers-in-order ys k (Meets (Setup code number)) ∙ rw (fit-exactly ys .1 fit, ne-eqb k 0 named, here) (left .0) in
     let changed = event-changes-its-call ys k (Setup code number) done in
-    (done, (changed .1 ∙ left .1 .1, changed .0 ∙ (ap (λ c. table.replacedFor k c ys) (left .1 .0) ∙ replaced-self k ys)))
+    (done, (changed .1 ∙ left .1 .1, changed .0 ∙ (ap (λ c. table.callReplaced k c ys) (left .1 .0) ∙ replaced-self k ys)))
 
 -- the call of a setup is in use, with symmetric service
 is-symmetric : (c : Call) → numbering .takes c ≡ true → c .soft ≡ Symmetric

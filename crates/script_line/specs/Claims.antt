@@ -7,7 +7,7 @@ use Rattle.lines.specs.Lines.{ascii}
 use Rattle.line_words.specs.Words.{isBlank}
 use Rattle.events.specs.declared.Act.{Act}
 use Rattle.event_record.specs.Record.{decodedOf}
-use Rattle.event_record.specs.Encoded.{recordOf}
+use Rattle.event_record.specs.Encoded.{octetsWritten}
 use Rattle.event_record.specs.Claims.{Fits}
 use Rattle.event_record.specs.declared.Request.the-variants.{Asks}
 use Rattle.event_words.specs.Words.{eventText}
@@ -18,13 +18,13 @@ use Rattle.script_line.specs.Script.{parsedOf}
 abbrev pub RoundTrip : Type 0
 RoundTrip =
     (key : ℕ) (act : Act) → Fits key act →
-    (parsedOf (eventText key act) ≡ Told key act) × (decodedOf (recordOf key act) ≡ record { key = key; request = Asks act })
+    (parsedOf (eventText key act) ≡ Told key act) × (decodedOf (octetsWritten key act) ≡ record { key = key; request = Asks act })
 
 -- Whatever a line is read as, its numbers have a place in a record, and the record that is written of it decodes to the same key and event.
 abbrev pub WrittenAsRead : Type 0
 WrittenAsRead =
     (line : List ℕ) (key : ℕ) (act : Act) → parsedOf line ≡ Told key act →
-    Fits key act × (decodedOf (recordOf key act) ≡ record { key = key; request = Asks act })
+    Fits key act × (decodedOf (octetsWritten key act) ≡ record { key = key; request = Asks act })
 
 -- A comment changes nothing: a line is read as it is without one, so that its comment need not be kept.
 abbrev pub CommentsAreNotRead : Type 0

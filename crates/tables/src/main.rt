@@ -6,7 +6,8 @@ mod first;
 mod octets;
 mod print;
 
-ghost use Prim.Native.Nat.{_≤_};
+ghost use Prim.Native.Nat.{_+_, _*_, _≤_};
+ghost use lib.ListN.{length};
 use event_record::Request;
 use libc::STDIN_FILENO;
 
@@ -31,26 +32,29 @@ fn answer(number: u64, body: &mut [u8]) -> bool {
     if got < 2 || 1100 < count {
         return print::bad();
     }
-    if !came(body, count * 20 + 16) {
+    answer_rest(number, count, body)
+}
+
+// The rest of a case: its records and its event, whole.
+fn answer_rest(number: u64, count: usize, body: &mut [u8]) -> bool
+    requires { ⌜ count ≤ 1100 ⌝ }
+{
+    let size = count * 20 + 16;
+    if body.len() < size {
+        return print::bad();
+    }
+    if io::read_full(STDIN_FILENO, &mut body[..size]) < size {
         return print::bad();
     }
     answer_body(number, count, body)
 }
 
-// The rest of a case, whole.
-fn came(body: &mut [u8], size: usize) -> bool {
-    if size <= body.len() {
-        return io::read_full(STDIN_FILENO, &mut body[..size]) == size;
-    }
-    false
-}
-
 fn answer_body(number: u64, count: usize, body: &[u8]) -> bool
-    requires { ⌜ count ≤ 1100 ⌝ }
+    requires { ⌜ (count ≤ 1100) × (count * 20 + 16 ≤ length (now body)) ⌝ }
 {
     let records = octets::records(body, count);
     let table = records.table;
-    let event = event_record::decode(octets::event(body, count * 20));
+    let event = event_record::decode(event_record::record_at(body, count * 20));
     if !records.named {
         return print::bad();
     }

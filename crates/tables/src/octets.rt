@@ -36,18 +36,6 @@ fn long(body: &[u8], place: usize) -> u32
     high * 65536 + low
 }
 
-pub(crate) fn event(body: &[u8], place: usize) -> [u8; 16]
-    requires { ⌜ place ≤ 22000 ⌝ }
-{
-    let mut octets = [0u8; 16];
-    let mut index: usize = 0;
-    while index < 16 {
-        octets[index] = octet(body, place + index);
-        index += 1;
-    }
-    octets
-}
-
 pub(crate) fn records(body: &[u8], count: usize) -> Table
     requires { ⌜ count ≤ 1100 ⌝ }
 {

@@ -24,7 +24,8 @@ use Rattle.event_record.specs.declared.Request.the-variants.{Bad, Asks}
 use Rattle.event_record.specs.Record.{decodedOf}
 use Rattle.trace_line.specs.declared.Columns.{Columns}
 use Rattle.trace_line.specs.Line.{firstLine, numbersText, restText, lineText}
-use Rattle.trace_run.specs.Run.{Past, begin, afterRecords, onRequest, onDecoded, recordAt, shownOf, badLine}
+use Rattle.event_record.specs.Places.{recordAt}
+use Rattle.trace_run.specs.Run.{Past, begin, afterRecords, onRequest, onDecoded, shownOf, badLine}
 use Rattle.trace_run.specs.Story.{story}
 use Rattle.trace_run.specs.Claims as claim
 use Rattle.trace_run.specs.Claims.{Asked, AfterOne, checkedRun, uncheckedRun, printedOf}

@@ -1,4 +1,4 @@
--- The laws of the search among the keys, and of 16 octets in a row. Assumes nothing.
+-- The laws of the search among the keys. Assumes nothing.
 use Prim.Native.Nat.{ℕ, zero, suc, _+_, _≤_, _<_}
 use native.Mathlib.Omega.{arith}
 use native.Mathlib.Numerals.{add-one}
@@ -9,7 +9,6 @@ use lib.ListN.{length, take, drop, set, getD, drop-of-length-le}
 use lib.Seq.{drop-cons, take-suc, take-suc-set, take-all}
 use Rattle.call.specs.declared.Call.{Call}
 use Rattle.call.specs.Record.{emptied}
-use Rattle.trace_run.specs.Run.{recordAt}
 use Rattle.trace_run.specs.Placed.{indexOf, keysIn}
 
 index-here : (key x : ℕ) (xs : List ℕ) → x ≡ key → indexOf key (x ∷ xs) ≡ 0
@@ -54,19 +53,3 @@ keys-more ys ks i k h l e p =
 
 pub keys-all : (ys : List Call) (ks : List ℕ) (i : ℕ) → length ks ≤ i → length ys ≤ i → take i ks ≡ take i (keysIn ys) → ks ≡ keysIn ys
 keys-all ys ks i h l p = sym (take-all i ks h) ∙ (p ∙ take-all i (keysIn ys) (omega (arith, length-keys ys)))
-
--- octets from a place on, one by one
-abbrev pub window : List ℕ → ℕ → ℕ → ℕ → List ℕ
-window s p k zero = []
-window s p k (suc n) = getD s (p + k) 0 ∷ window s p (suc k) n
-
-window-is : (s : List ℕ) (p k n : ℕ) → p + k + n ≤ length s → window s p k n ≡ take n (drop (p + k) s)
-window-is s p k zero h = refl
-window-is s p k (suc n) h =
-    let e : suc (p + k) ≡ p + suc k = omega arith in
-    rw (drop-cons s (p + k) 0 (omega arith)) (ap (λ (l : List ℕ). getD s (p + k) 0 ∷ l) (window-is s p (suc k) n (omega arith) ∙ ap (λ (m : ℕ). take n (drop m s)) (sym e)))
-
-pub record-is : (s : List ℕ) (p : ℕ) → p + 16 ≤ length s → (getD s p 0 ∷ window s p 1 15) ≡ recordAt s p
-unfolding recordAt
-record-is s p h =
-    rw (drop-cons s p 0 (omega arith)) (ap (λ (l : List ℕ). getD s p 0 ∷ l) (window-is s p 1 15 (omega arith) ∙ ap (λ (m : ℕ). take 15 (drop m s)) (add-one p)))

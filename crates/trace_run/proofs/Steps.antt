@@ -24,7 +24,8 @@ use Rattle.event_record.specs.declared.Request.the-variants.{Bad, Asks}
 use Rattle.event_record.specs.Record.{decodedOf}
 use Rattle.trace_line.specs.declared.Columns.{Columns}
 use Rattle.trace_line.specs.Line.{lineText}
-use Rattle.trace_run.specs.Run.{Past, afterRecords, begin, onRequest, onDecoded, recordAt, shownOf, badLine}
+use Rattle.event_record.specs.Places.{recordAt}
+use Rattle.trace_run.specs.Run.{Past, afterRecords, begin, onRequest, onDecoded, shownOf, badLine}
 use Rattle.trace_run.specs.Placed.{keysIn, indexOf, placeFor, workedOn, unplacedFor}
 use Rattle.trace_run.proofs.Laws.{keys-set}
 use Rattle.trace_run.proofs.Placed.{placed, unplaced}

@@ -14,6 +14,7 @@ use Rattle.source_table.specs.Table.{ranOf, tableOf}
 use Rattle.event_record.specs.declared.Decoded.{Decoded}
 use Rattle.event_record.specs.declared.Request.{Request}
 use Rattle.event_record.specs.declared.Request.the-variants.{Bad, Asks}
+use Rattle.event_record.specs.Places.{recordAt}
 use Rattle.event_record.specs.Record.{decodedOf}
 use Rattle.trace_line.specs.declared.Columns.{Columns}
 use Rattle.trace_line.specs.Line.{lineText}
@@ -55,10 +56,6 @@ onRequest w p key (Asks act) =
 
 abbrev pub onDecoded : Columns → Past → Decoded → Past
 onDecoded w p d = onRequest w p (d .key) (d .request)
-
--- the 16 octets from a place on
-unfoldable pub recordAt : List ℕ → ℕ → List ℕ
-recordAt octets place = take 16 (drop place octets)
 
 -- after so many records of the input; behind a bad one nothing is read
 abbrev pub afterRecords : Columns → List ℕ → Past → ℕ → Past

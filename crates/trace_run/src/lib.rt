@@ -7,7 +7,7 @@ ghost use mathlib.Core.Bool.{true};
 ghost use mathlib.Core.Path.{_≡_};
 ghost use lib.ListN.{length};
 ghost use Rattle.source_table.specs.Fit.{fitTable};
-ghost use Rattle.trace_run.specs.Run.{recordAt, chunkOf};
+ghost use Rattle.trace_run.specs.Run.{chunkOf};
 ghost use Rattle.trace_run.specs.Placed.{keysIn, indexOf, placeFor, refusedWith, carriedOn, workedOn, unplacedFor, stoppedAt, Stops};
 use admission::Admission;
 use call::Call;
@@ -24,30 +24,6 @@ pub struct Stop {
     pub at: usize,
     pub count: u64,
     pub good: bool,
-}
-
-fn record_at(input: &[u8], place: usize) -> [u8; 16]
-    requires { ⌜ place + 16 ≤ length (now input) ⌝ }
-    ensures { λ r. ⌜ r ≡ recordAt (now (input .entry)) place ⌝ }
-{
-    [
-        input[place],
-        input[place + 1],
-        input[place + 2],
-        input[place + 3],
-        input[place + 4],
-        input[place + 5],
-        input[place + 6],
-        input[place + 7],
-        input[place + 8],
-        input[place + 9],
-        input[place + 10],
-        input[place + 11],
-        input[place + 12],
-        input[place + 13],
-        input[place + 14],
-        input[place + 15],
-    ]
 }
 
 fn keys_of(table: [Call; 64]) -> [u32; 64]
@@ -155,7 +131,7 @@ pub fn run(table: [Call; 64], input: &[u8], out: &mut [u8], columns: Columns, st
     let records = input.len() / 16;
     let mut index: usize = 0;
     while index < records {
-        let decoded = event_record::decode(record_at(input, index * 16));
+        let decoded = event_record::decode(event_record::record_at(input, index * 16));
         let request = decoded.request;
         let Request::Asks(act) = request else {
             at = lines::put_word(out, at, b"bad\n");
