@@ -2,3 +2,4 @@ pub mod Agree
 pub mod Lawful
 pub mod Only
 pub mod Carried
+pub mod Wrong

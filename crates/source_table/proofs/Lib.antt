@@ -9,3 +9,4 @@ pub mod Given
 pub mod Kept
 pub mod Source
 pub mod Bench
+pub mod Wrong

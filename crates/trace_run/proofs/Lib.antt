@@ -3,3 +3,4 @@ pub mod Placed
 pub mod Steps
 pub mod Empty
 pub mod Claims
+pub mod Wrong
