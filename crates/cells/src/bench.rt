@@ -6,6 +6,7 @@ use call::Call;
 use call::Outcome;
 use events::Act;
 use events::Event;
+use events::Node;
 use lines::put_byte;
 use lines::put_number;
 use lines::put_word;
@@ -40,7 +41,7 @@ fn begin() -> Run {
     });
     let mut line = [0u8; 256];
     let mut place = put_label(&mut line, 1);
-    place = event_words::put_event(&mut line, place, 7, Act::Opens(wanted));
+    place = event_words::put_event(&mut line, place, Node::Source, 7, Act::Opens(wanted));
     finish(&mut line, place, Call::opened(7, wanted))
 }
 
@@ -86,7 +87,7 @@ impl Run {
         let call = self.call;
         let mut line = [0u8; 256];
         let mut place = put_label(&mut line, number);
-        place = event_words::put_keyless(&mut line, place, event);
+        place = event_words::put_keyless(&mut line, place, Node::Source, event);
         finish(&mut line, place, call.handle(event))
     }
 }

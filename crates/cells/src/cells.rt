@@ -8,6 +8,7 @@ use call::Call;
 use call::Outcome;
 use events::Act;
 use events::Event;
+use events::Node;
 use rows::State;
 use signal::Crankback;
 use signal::ReceivedCause;
@@ -148,7 +149,7 @@ fn print_cell(call: Call, event: Event) -> bool {
     let mut line = [0u8; 256];
     let mut place = source_words::put_call(&mut line, 0, call);
     place = put_bar(&mut line, place);
-    place = event_words::put_keyless(&mut line, place, event);
+    place = event_words::put_keyless(&mut line, place, Node::Source, event);
     place = put_outcome(&mut line, place, call.handle(event));
     write_line(&mut line, place)
 }
@@ -191,7 +192,7 @@ fn print_named(key: u32, hard: bool, soft: Soft) -> bool {
 
 fn print_opening(key: u32, wanted: Wanted) -> bool {
     let mut line = [0u8; 256];
-    let mut place = event_words::put_event(&mut line, 0, key, Act::Opens(wanted));
+    let mut place = event_words::put_event(&mut line, 0, Node::Source, key, Act::Opens(wanted));
     place = put_outcome(&mut line, place, Call::opened(key, wanted));
     write_line(&mut line, place)
 }

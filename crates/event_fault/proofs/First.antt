@@ -57,7 +57,7 @@ module _ (o : ℕ → ℕ) (octets : (i : ℕ) → o i < 256) where
       picked i 0 _ _ zeroth (picked i 1 _ _ first
       (picked i 2 _ _ second (picked i 3 _ _ third (picked-either i 8 9 _ _ eighth ninth (any i)))))
 
-  open-tells : o 0 ≡ 0 → Tells o 0 (openFault (o 1) (o 2) (o 3))
+  open-tells : o 0 ≤ 9 → Tells o 0 (openFault (o 1) (o 2) (o 3))
   open-tells k = by-named (eqb (o 1) 0) refl
     where
       by-soft : eqb (o 1) 0 ≡ false → o 1 ≤ 1 → o 2 ≤ 1 → (t : Bool) → ltb 2 (o 3) ≡ t →
@@ -100,7 +100,7 @@ module _ (o : ℕ → ℕ) (octets : (i : ℕ) → o i < 256) where
       by-highest true e = let h = ltb-true 0 (o 8) e in (refl, (rw has (λ l. omega arith), before))
       by-highest false e = by-high (ltb-false 0 (o 8) e) (ltb 0 (o 9)) refl
 
-  connect-tells : o 0 ≡ 4 → Tells o 4 (connectFault (o 1) (o 8) (o 9))
+  connect-tells : o 0 ≤ 9 → Tells o 4 (connectFault (o 1) (o 8) (o 9))
   connect-tells k = by-policy (ltb 1 (o 1)) refl
     where
       by-policy : (t : Bool) → ltb 1 (o 1) ≡ t → Tells o 4 (cond t (Misses 1 (o 1) PolicyFlag) (connectionFault (o 8) (o 9)))
@@ -122,24 +122,28 @@ module _ (o : ℕ → ℕ) (octets : (i : ℕ) → o i < 256) where
       by-present true e = let h = ltb-true 1 (o 1) e in (refl, (λ l. omega arith, (tt, zeroth)))
       by-present false e = by-back (ltb-false 1 (o 1) e) (ltb 2 (o 3)) refl
 
-  calling-tells : o 0 ≡ 6 → Tells o 6 (callingFault (o 1) (o 3))
+  calling-tells : o 0 ≤ 9 → Tells o 6 (callingFault (o 1) (o 3))
   calling-tells k = release-tells 6 NoFault (omega arith) refl refl refl (λ a b. all-named 6 (omega arith) a (any 2) b (any 8) (any 9))
 
-  called-tells : o 0 ≡ 7 → Tells o 7 (calledFault (o 1) (o 3) (o 8) (o 9))
+  called-tells : o 0 ≤ 9 → Tells o 7 (calledFault (o 1) (o 3) (o 8) (o 9))
   called-tells k =
       release-tells 7 (connectionFault (o 8) (o 9)) (omega arith) refl refl refl (λ a b. connection-tells 7 refl (omega arith) a (any 2) b)
 
-  pub kind-tells : (kind : ℕ) → o 0 ≡ kind → Tells o kind (kindFault kind (o 1) (o 2) (o 3) (o 8) (o 9))
+  -- byte 0 where it is not the kind itself: at the destination the two releases change places, and no other kind does
+  abbrev pub Names : ℕ → Type 0
+  Names kind = (kind ≤ 9 → o 0 ≤ 9) × (9 < kind → o 0 ≡ kind)
+
+  pub kind-tells : (kind : ℕ) → Names kind → Tells o kind (kindFault kind (o 1) (o 2) (o 3) (o 8) (o 9))
   kind-tells =
-      by-kind (λ kind. o 0 ≡ kind → Tells o kind (kindFault kind (o 1) (o 2) (o 3) (o 8) (o 9)))
-      open-tells
-      (λ k. all-named 1 (omega arith) (any 1) (any 2) (any 3) (any 8) (any 9))
-      (λ k. all-named 2 (omega arith) (any 1) (any 2) (any 3) (any 8) (any 9))
-      (λ k. all-named 3 (omega arith) (any 1) (any 2) (any 3) (any 8) (any 9))
-      connect-tells
-      (λ k. all-named 5 (omega arith) (any 1) (any 2) (any 3) (any 8) (any 9))
-      calling-tells
-      called-tells
-      (λ k. all-named 8 (omega arith) (any 1) (any 2) (any 3) (any 8) (any 9))
-      (λ k. all-named 9 (omega arith) (any 1) (any 2) (any 3) (any 8) (any 9))
-      (λ kind h k. rw (lt-ltb 9 kind h) (k, (λ l. omega arith, tt)))
+      by-kind (λ kind. Names kind → Tells o kind (kindFault kind (o 1) (o 2) (o 3) (o 8) (o 9)))
+      (λ k. open-tells (k .0 (omega arith)))
+      (λ k. all-named 1 (k .0 (omega arith)) (any 1) (any 2) (any 3) (any 8) (any 9))
+      (λ k. all-named 2 (k .0 (omega arith)) (any 1) (any 2) (any 3) (any 8) (any 9))
+      (λ k. all-named 3 (k .0 (omega arith)) (any 1) (any 2) (any 3) (any 8) (any 9))
+      (λ k. connect-tells (k .0 (omega arith)))
+      (λ k. all-named 5 (k .0 (omega arith)) (any 1) (any 2) (any 3) (any 8) (any 9))
+      (λ k. calling-tells (k .0 (omega arith)))
+      (λ k. called-tells (k .0 (omega arith)))
+      (λ k. all-named 8 (k .0 (omega arith)) (any 1) (any 2) (any 3) (any 8) (any 9))
+      (λ k. all-named 9 (k .0 (omega arith)) (any 1) (any 2) (any 3) (any 8) (any 9))
+      (λ kind h k. let e = k .1 h in rw (lt-ltb 9 kind h) (e, (λ l. omega arith, tt)))

@@ -15,6 +15,7 @@ use ghost.Atoms.{Atoms}
 use prog.Memory.{Memory}
 use prog.Routine.{Routine}
 use prog.Wp.{Heap}
+use Rattle.events.specs.declared.Node.the-variants.{Source}
 use Rattle.event_fault.specs.declared.Expected.the-variants.{PolicyFlag}
 use Rattle.event_fault.specs.declared.Expected.{Expected}
 use Rattle.event_fault.specs.declared.Fault.the-variants.{NoFault, Misses}
@@ -32,9 +33,9 @@ module _ {M : Type 1} (𝓤 : URA M) (H : Heap 𝓤) (A : Atoms 𝓤) (memory : 
   abbrev NeverHolds : SProp 𝓤 → Type 1
   NeverHolds says = ent 𝓤 says (fact 𝓤 ⊥)
 
-  -- find: of 16 octets, their fault
+  -- find: of 16 octets at the source, their fault
   abbrev find-shuts-out : List ℕ → Fault → Type 1
-  find-shuts-out octets r = NeverHolds (find.clauses 𝓤 H A memory run tt (octets, tt) .ensures tt r (octets, tt))
+  find-shuts-out octets r = NeverHolds (find.clauses 𝓤 H A memory run tt (Source, (octets, tt)) .ensures tt r (Source, (octets, tt)))
 
   -- a connection above 65,535 shows in bytes 8 and 9 (docs/BENCH.md, "list"): a connect with 65,536
   pub byte-9-told-as-10 :

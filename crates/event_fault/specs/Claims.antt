@@ -6,9 +6,10 @@ use mathlib.Core.Logic.{_↔_}
 use mathlib.Core.Path.{_≡_}
 use mathlib.Core.List.{List}
 use lib.Dec.{eqb}
-use Rattle.event_record.specs.Record.{octet, decodedOf}
+use Rattle.events.specs.declared.Node.{Node}
+use Rattle.event_record.specs.Record.{octet, kindAt, decodedAt}
 use Rattle.event_record.specs.declared.Request.the-variants.{Bad}
-use Rattle.event_fault.specs.Fault.{faultOf}
+use Rattle.event_fault.specs.Fault.{faultAt}
 use Rattle.event_fault.specs.declared.Expected.{Expected}
 use Rattle.event_fault.specs.declared.Fault.the-variants.{NoFault, Misses}
 
@@ -17,7 +18,7 @@ Octets os = (i : ℕ) → octet os i < 256
 
 -- A fault is found exactly where the record is bad.
 abbrev pub ExactlyTheBad : Type 0
-ExactlyTheBad = (os : List ℕ) → Octets os → (decodedOf os .request ≡ Bad) ↔ (faultOf os ≡ NoFault → ⊥)
+ExactlyTheBad = (node : Node) (os : List ℕ) → Octets os → (decodedAt node os .request ≡ Bad) ↔ (faultAt node os ≡ NoFault → ⊥)
 
 -- The highest value that is named for each byte (01, "The trace"); 255 where the byte is not read, or may have any value. Of a record: its
 -- kind is byte 0, and byte 1 of an opening tells whether bytes 2 and 3 are read
@@ -44,15 +45,15 @@ highest kind first byte =
     (cond (eqb byte 3) (highestThird kind first)
     (cond (eqb byte 8 || eqb byte 9) (cond (hasConnection kind) 0 255) 255))))
 
-abbrev pub Named : List ℕ → ℕ → Type 0
-Named os i = octet os i ≤ highest (octet os 0) (octet os 1) i
+abbrev pub Named : Node → List ℕ → ℕ → Type 0
+Named node os i = octet os i ≤ highest (kindAt node (octet os 0)) (octet os 1) i
 
 -- Where no fault is found, every byte is named.
 abbrev pub AllAreNamed : Type 0
-AllAreNamed = (os : List ℕ) → Octets os → faultOf os ≡ NoFault → (i : ℕ) → Named os i
+AllAreNamed = (node : Node) (os : List ℕ) → Octets os → faultAt node os ≡ NoFault → (i : ℕ) → Named node os i
 
 -- The byte that a fault tells has the value told, which is not named, and every byte before it is named.
 abbrev pub TheFirst : Type 0
 TheFirst =
-    (os : List ℕ) → Octets os → (byte value : ℕ) (expected : Expected) → faultOf os ≡ Misses byte value expected →
-    (octet os byte ≡ value) × ((Named os byte → ⊥) × ((i : ℕ) → i < byte → Named os i))
+    (node : Node) (os : List ℕ) → Octets os → (byte value : ℕ) (expected : Expected) → faultAt node os ≡ Misses byte value expected →
+    (octet os byte ≡ value) × ((Named node os byte → ⊥) × ((i : ℕ) → i < byte → Named node os i))

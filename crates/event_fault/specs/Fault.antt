@@ -4,7 +4,8 @@ use Prim.Native.Nat.{ℕ}
 use mathlib.Core.Bool.{cond}
 use mathlib.Core.List.{List}
 use lib.Dec.{eqb, ltb}
-use Rattle.event_record.specs.Record.{octet}
+use Rattle.events.specs.declared.Node.{Node}
+use Rattle.event_record.specs.Record.{kindAt, octet}
 use Rattle.event_fault.specs.declared.Expected.the-variants.{SomeEvent, NamedOrNot, HardFlag, SoftService, PolicyFlag, CausePresent}
 use Rattle.event_fault.specs.declared.Expected.the-variants.{CrankbackFound, SmallConnection}
 use Rattle.event_fault.specs.declared.Fault.{Fault}
@@ -43,5 +44,5 @@ kindFault kind first second third highest high =
     (cond (eqb kind 6) (callingFault first third)
     (cond (eqb kind 7) (calledFault first third highest high) NoFault))))
 
-abbrev pub faultOf : List ℕ → Fault
-faultOf os = kindFault (octet os 0) (octet os 1) (octet os 2) (octet os 3) (octet os 8) (octet os 9)
+abbrev pub faultAt : Node → List ℕ → Fault
+faultAt node os = kindFault (kindAt node (octet os 0)) (octet os 1) (octet os 2) (octet os 3) (octet os 8) (octet os 9)

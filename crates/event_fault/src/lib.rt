@@ -2,7 +2,8 @@
 // and that in words (docs/BENCH.md, "list").
 ghost use mathlib.Core.Path.{_≡_};
 ghost use Rattle.lines.specs.Lines.{page, putText};
-ghost use Rattle.event_fault.specs.Fault.{openFault, connectionFault, connectFault, callingFault, calledFault, kindFault, faultOf};
+use events::Node;
+ghost use Rattle.event_fault.specs.Fault.{openFault, connectionFault, connectFault, callingFault, calledFault, kindFault, faultAt};
 ghost use Rattle.event_fault.specs.Words.{expectedText, byteText, faultText};
 
 // What an octet is to say.
@@ -107,11 +108,11 @@ fn of_kind(kind: u8, first: u8, second: u8, third: u8, highest: u8, high: u8) ->
     Fault::NoFault
 }
 
-pub fn find(octets: [u8; 16]) -> Fault
-    ensures { λ r. ⌜ r ≡ faultOf octets ⌝ }
+pub fn find(node: Node, octets: [u8; 16]) -> Fault
+    ensures { λ r. ⌜ r ≡ faultAt node octets ⌝ }
 {
     of_kind(
-        octets[0],
+        event_record::kind_at(node, octets[0]),
         octets[1],
         octets[2],
         octets[3],

@@ -3,11 +3,11 @@ use Prim.Native.Nat.{ℕ, _+_, _*_, _/_, _%_, _<_}
 use native.Mathlib.Nat.{div-div-eq-div-mul}
 use native.Mathlib.Omega.{arith}
 use mathlib.Core.Path.{_≡_, refl, sym, _∙_, ap}
-use mathlib.Core.List.{_∷_}
+use mathlib.Core.List.{List, _∷_}
 use mathlib.Core.Bool.{Bool, true, false, cond}
 use mathlib.Core.Logic.{inl, inr}
 use lib.Dec.{eqb, ltb}
-use borrow.Author.Tests.{lt-ltb, le-ltb, ne-eqb}
+use borrow.Author.Tests.{lt-ltb, le-ltb, eqb-true, ne-eqb}
 use Rattle.signal.specs.Numbers.{softNumber, crankbackNumber}
 use Rattle.signal.specs.declared.Crankback.{Crankback}
 use Rattle.signal.specs.declared.Crankback.the-variants.{NoCrankback, AlternateFound, NoAlternate}
@@ -21,10 +21,13 @@ use Rattle.events.specs.declared.Event.{Event}
 use Rattle.events.specs.declared.Event.the-variants.{Trigger, PathFound, NoPath, Connect, Setup, FromParty, FromDomain, Ready, Expiry}
 use Rattle.events.specs.declared.Act.{Act}
 use Rattle.events.specs.declared.Act.the-variants.{Opens, Meets}
-use Rattle.event_record.specs.Record.{octet, numberOf, requestOf, openOf, connectOf, callingOf, calledOf}
+use Rattle.events.specs.declared.Node.{Node}
+use Rattle.events.specs.declared.Node.the-variants.{Source, Destination}
+use Rattle.event_record.specs.Record.{octet, numberOf, kindAt, requestOf, openOf, connectOf, callingOf, calledOf}
 use Rattle.event_record.specs.Encoded.{flagNumber, presentNumber, causeNumber, openValues, eventValues, actValues}
 use Rattle.event_record.specs.Claims.{bigEndian, EventFits, ActFits}
 use Rattle.event_record.specs.Claims as claim
+use Rattle.event_record.specs.declared.Decoded.{Decoded}
 use Rattle.event_record.specs.declared.Request.{Request}
 use Rattle.event_record.specs.declared.Request.the-variants.{Bad, Asks}
 
@@ -124,12 +127,24 @@ number-fits (Meets (FromDomain c cause back)) f = let h : c < 65536 = f .0 in om
 number-fits (Meets Ready) f = omega arith
 number-fits (Meets Expiry) f = omega arith
 
+-- the releases change places twice
+kind-twice : (node : Node) (kind : ℕ) → kindAt node (kindAt node kind) ≡ kind
+kind-twice Source kind = refl
+kind-twice Destination kind = by-tests (eqb kind 6) (eqb kind 7) refl refl
+  where
+    by-tests : (six seven : Bool) → eqb kind 6 ≡ six → eqb kind 7 ≡ seven → kindAt Destination (cond six 7 (cond seven 6 kind)) ≡ kind
+    by-tests true seven p q = sym (eqb-true kind 6 p)
+    by-tests false true p q = sym (eqb-true kind 7 q)
+    by-tests false false p q = rw (p, q)
+
 pub read-back : claim.ReadBack
-read-back key act fits =
+read-back node key act fits =
     let v = actValues act in
     let request =
-    ap (λ n. requestOf (v .kind) (v .first) (v .second) (v .third) n)
-    (read-back-number (v .number) (number-fits act (fits .1))) ∙ act-back act (fits .1) in
+    ap (λ k. requestOf k (v .first) (v .second) (v .third)
+    (numberOf (v .number / 16777216 % 256) (v .number / 65536 % 256) (v .number / 256 % 256) (v .number % 256))) (kind-twice node (v .kind))
+    ∙ (ap (λ n. requestOf (v .kind) (v .first) (v .second) (v .third) n)
+    (read-back-number (v .number) (number-fits act (fits .1))) ∙ act-back act (fits .1)) in
     λ i. record { key = read-back-number key (fits .0) i; request = request i }
 
 -- what the octets mean: two octets are the connection that they spell
@@ -228,3 +243,18 @@ not-named-is-bad n p q r more =
 
 pub octets-in-their-order : claim.OctetsInTheirOrder
 octets-in-their-order = (refl, refl)
+
+-- a record whose kind is told apart
+abbrev withKind : ℕ → List ℕ → Decoded
+withKind kind os =
+    record {
+      key = numberOf (octet os 4) (octet os 5) (octet os 6) (octet os 7);
+      request =
+          requestOf kind (octet os 1) (octet os 2) (octet os 3) (numberOf (octet os 8) (octet os 9) (octet os 10) (octet os 11));
+    }
+
+pub ends-differ : claim.EndsDiffer
+ends-differ more = (refl, (refl, λ kind six seven. ap (λ (k : ℕ). withKind k (kind ∷ more)) (same kind six seven)))
+  where
+    same : (kind : ℕ) → (kind ≡ 6 → ⊥) → (kind ≡ 7 → ⊥) → kindAt Destination kind ≡ kind
+    same kind six seven = rw (ne-eqb kind 6 six, ne-eqb kind 7 seven)

@@ -23,6 +23,8 @@ use Rattle.event_record.specs.declared.Request.the-variants.{Bad, Asks}
 use Rattle.event_record.specs.declared.Request.{Request}
 use Rattle.events.specs.declared.Act.the-variants.{Meets, Opens}
 use Rattle.events.specs.declared.Act.{Act}
+use Rattle.events.specs.declared.Node.{Node}
+use Rattle.events.specs.declared.Node.the-variants.{Source, Destination}
 use Rattle.events.specs.declared.Event.the-variants.{Connect, FromParty, Setup, Trigger}
 use Rattle.signal.specs.declared.ReceivedCause.the-variants.{WithCause}
 use Rattle.signal.specs.declared.ReceivedCause.{ReceivedCause}
@@ -35,6 +37,7 @@ use Rattle.event_record.proofs.decode as decode
 use Rattle.event_record.proofs.encode as encode
 use Rattle.event_record.proofs.record_at as record-at
 use Rattle.event_record.proofs.keep_rest as keep_rest
+use Rattle.event_record.proofs.kind_at as kind_at
 
 -- something that is lent; where it stands says nothing here
 abbrev lent : {X : Type 0} → X → RefT X
@@ -58,9 +61,10 @@ module _ {M : Type 1} (𝓤 : URA M) (H : Heap 𝓤) (A : Atoms 𝓤) (memory : 
   abbrev NeverHolds : SProp 𝓤 → Type 1
   NeverHolds says = ent 𝓤 says (fact 𝓤 ⊥)
 
-  -- decode: of 16 octets, their key and what they ask for
+  -- decode: of 16 octets at the source, their key and what they ask for
   abbrev decode-shuts-out : List ℕ → Decoded → Type 1
-  decode-shuts-out octets r = NeverHolds (decode.clauses 𝓤 H A memory run tt (octets, tt) .ensures tt r (octets, tt))
+  decode-shuts-out octets r =
+      NeverHolds (decode.clauses 𝓤 H A memory run tt (Source, (octets, tt)) .ensures tt r (Source, (octets, tt)))
 
   -- the key is bytes 4 to 7 (01, "The trace"), and not 8 to 11
   pub key-read-behind-its-place :
@@ -123,9 +127,10 @@ module _ {M : Type 1} (𝓤 : URA M) (H : Heap 𝓤) (A : Atoms 𝓤) (memory : 
   switchover-code-read-from-byte-2 key number =
       fact-mono 𝓤 _ _ (λ h. let z : _≡_ {A = ℕ} 0 _ = ap (λ (d : Decoded). getD (written (d .request)) 1 0) h in omega arith)
 
-  -- encode: of a key and what is done with it, 16 octets
+  -- encode: at the source, of a key and what is done with it, 16 octets
   abbrev encode-shuts-out : ℕ → Act → List ℕ → Type 1
-  encode-shuts-out key act r = NeverHolds (encode.clauses 𝓤 H A memory run tt (key, (act, tt)) .ensures tt r (key, (act, tt)))
+  encode-shuts-out key act r =
+      NeverHolds (encode.clauses 𝓤 H A memory run tt (Source, (key, (act, tt))) .ensures tt r (Source, (key, (act, tt))))
 
   -- each octet of the key is written once, the highest first (01, "The trace")
   pub key-written-with-an-octet-twice :
@@ -166,3 +171,15 @@ module _ {M : Type 1} (𝓤 : URA M) (H : Heap 𝓤) (A : Atoms 𝓤) (memory : 
   pub rest-stays-where-it-is : (r : ℕ) (more : List ℕ) → keep-rest-shuts-out (replicate 16 7 ++ (9 ∷ [])) 17 r (7 ∷ more)
   unfolding restLength
   rest-stays-where-it-is r more κs = fact-mono 𝓤 _ _ (λ h. let z : _≡_ {A = ℕ} 7 _ = ap (λ (os : List ℕ). getD os 0 0) (h .1) in omega arith)
+
+  -- kind_at: of an end and a kind, the kind that the source has for it
+  abbrev kind-at-shuts-out : Node → ℕ → ℕ → Type 1
+  kind-at-shuts-out node kind r = NeverHolds (kind_at.clauses 𝓤 H A memory run tt (node, (kind, tt)) .ensures tt r (node, (kind, tt)))
+
+  -- at the destination the calling release names a connection (Ask 2)
+  pub destination-releases-as-the-source : kind-at-shuts-out Destination 6 6
+  destination-releases-as-the-source = fact-mono 𝓤 _ _ (λ h. let z : _≡_ {A = ℕ} 6 7 = h in omega arith)
+
+  -- no other kind changes its place
+  pub destination-takes-a-connect-for-a-release : kind-at-shuts-out Destination 4 7
+  destination-takes-a-connect-for-a-release = fact-mono 𝓤 _ _ (λ h. let z : _≡_ {A = ℕ} 7 4 = h in omega arith)

@@ -13,8 +13,10 @@ use Rattle.events.specs.declared.Event.{Event}
 use Rattle.events.specs.declared.Event.the-variants.{Trigger, PathFound, NoPath, Connect, Setup, FromParty, FromDomain, Ready, Expiry}
 use Rattle.events.specs.declared.Act.{Act}
 use Rattle.events.specs.declared.Act.the-variants.{Opens, Meets}
-use Rattle.event_record.specs.Record.{octet, numberOf, decodedOf}
-use Rattle.event_record.specs.Encoded.{octetsWritten}
+use Rattle.events.specs.declared.Node.{Node}
+use Rattle.events.specs.declared.Node.the-variants.{Source, Destination}
+use Rattle.event_record.specs.Record.{octet, numberOf, decodedAt, decodedOf}
+use Rattle.event_record.specs.Encoded.{writtenAt}
 use Rattle.event_record.specs.declared.Request.the-variants.{Bad, Asks}
 
 -- What each octet means, in the words of 01, "The trace": octets on the left, what they ask for on the right, and nothing of how they are
@@ -143,6 +145,17 @@ ActFits (Meets e) = EventFits e
 abbrev pub Fits : ℕ → Act → Type 0
 Fits key act = (key < 4294967296) × ActFits act
 
--- Every event whose numbers fit comes back from its record as it was, with its key; a calling release has no crankback to lose.
+-- Every event whose numbers fit comes back from its record as it was, with its key, at either end; a release from the node's own party has
+-- no crankback to lose.
 abbrev pub ReadBack : Type 0
-ReadBack = (key : ℕ) (act : Act) → Fits key act → decodedOf (octetsWritten key act) ≡ record { key = key; request = Asks act }
+ReadBack =
+    (node : Node) (key : ℕ) (act : Act) → Fits key act →
+    decodedAt node (writtenAt node key act) ≡ record { key = key; request = Asks act }
+
+-- Ask 2: at the destination a record says what it says at the source, but that the two releases change places.
+abbrev pub EndsDiffer : Type 0
+EndsDiffer =
+    (more : List ℕ) →
+    (decodedAt Destination (6 ∷ more) ≡ decodedAt Source (7 ∷ more))
+    × ((decodedAt Destination (7 ∷ more) ≡ decodedAt Source (6 ∷ more))
+    × ((kind : ℕ) → (kind ≡ 6 → ⊥) → (kind ≡ 7 → ⊥) → decodedAt Destination (kind ∷ more) ≡ decodedAt Source (kind ∷ more)))

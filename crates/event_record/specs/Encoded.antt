@@ -12,6 +12,9 @@ use Rattle.events.specs.declared.Event.{Event}
 use Rattle.events.specs.declared.Event.the-variants.{Trigger, PathFound, NoPath, Connect, Setup, FromParty, FromDomain, Ready, Expiry}
 use Rattle.events.specs.declared.Act.{Act}
 use Rattle.events.specs.declared.Act.the-variants.{Opens, Meets}
+use Rattle.events.specs.declared.Node.{Node}
+use Rattle.events.specs.declared.Node.the-variants.{Source}
+use Rattle.event_record.specs.Record.{kindAt}
 use Rattle.event_record.specs.declared.Values.{Values}
 
 -- four octets, big-endian
@@ -59,5 +62,13 @@ actValues (Meets e) = eventValues e
 abbrev pub laidOut : ℕ → Values → List ℕ
 laidOut key v = v .kind ∷ v .first ∷ v .second ∷ v .third ∷ (fourOctets key ++ (fourOctets (v .number) ++ (0 ∷ 0 ∷ 0 ∷ 0 ∷ [])))
 
+-- the same, with the kind that it has at an end
+abbrev pub valuesAt : Node → Values → Values
+valuesAt node v = brought (kindAt node (v .kind)) (v .first) (v .second) (v .third) (v .number)
+
+abbrev pub writtenAt : Node → ℕ → Act → List ℕ
+writtenAt node key act = laidOut key (valuesAt node (actValues act))
+
+-- at the source
 abbrev pub octetsWritten : ℕ → Act → List ℕ
-octetsWritten key act = laidOut key (actValues act)
+octetsWritten key act = writtenAt Source key act

@@ -13,6 +13,8 @@ use Rattle.signal.specs.declared.Soft.the-variants.{NoSoft, Asymmetric, Symmetr
 use Rattle.signal.specs.declared.Wanted.the-variants.{Unnamed, Named}
 use Rattle.events.specs.declared.Event.the-variants.{Trigger, PathFound, NoPath, Connect, Setup, FromParty, FromDomain, Ready, Expiry}
 use Rattle.events.specs.declared.Act.the-variants.{Opens, Meets}
+use Rattle.events.specs.declared.Node.{Node}
+use Rattle.events.specs.declared.Node.the-variants.{Source, Destination}
 use Rattle.event_record.specs.declared.Request.{Request}
 use Rattle.event_record.specs.declared.Request.the-variants.{Bad, Asks}
 use Rattle.event_record.specs.declared.Decoded.{Decoded}
@@ -76,12 +78,22 @@ requestOf kind first second third number =
     (cond (eqb kind 6) (callingOf first second third)
     (cond (eqb kind 7) (calledOf first second third number) (plainOf kind)))))
 
+-- byte 0 names a release by its side: 6 calling, 7 called. At the destination the calling side's is the one from across the domain, which
+-- names a connection; so there 6 and 7 change places
+abbrev pub kindAt : Node → ℕ → ℕ
+kindAt Source kind = kind
+kindAt Destination kind = cond (eqb kind 6) 7 (cond (eqb kind 7) 6 kind)
+
 -- bytes 4 to 7 are the key, 8 to 11 the incarnation or connection number
-abbrev pub decodedOf : List ℕ → Decoded
-decodedOf os =
+abbrev pub decodedAt : Node → List ℕ → Decoded
+decodedAt node os =
     record {
       key = numberOf (octet os 4) (octet os 5) (octet os 6) (octet os 7);
       request =
-          requestOf (octet os 0) (octet os 1) (octet os 2) (octet os 3)
+          requestOf (kindAt node (octet os 0)) (octet os 1) (octet os 2) (octet os 3)
           (numberOf (octet os 8) (octet os 9) (octet os 10) (octet os 11));
     }
+
+-- at the source
+abbrev pub decodedOf : List ℕ → Decoded
+decodedOf os = decodedAt Source os

@@ -5,14 +5,15 @@ ghost use mathlib.Core.Path.{_≡_};
 ghost use lib.ListN.{length};
 ghost use Rattle.event_record.specs.Places.{recordAt, restLength, restKept};
 ghost use Rattle.event_record.specs.Record.{numberOf, softOf, crankbackOf, causeOf, openOf, connectOf, callingOf, calledOf, plainOf};
-ghost use Rattle.event_record.specs.Record.{requestOf, decodedOf};
+ghost use Rattle.event_record.specs.Record.{requestOf, kindAt, decodedAt};
 ghost use Rattle.event_record.specs.Encoded.{flagNumber, presentNumber, causeNumber, brought, openValues, eventValues, actValues};
-ghost use Rattle.event_record.specs.Encoded.{laidOut, octetsWritten};
+ghost use Rattle.event_record.specs.Encoded.{laidOut, valuesAt, writtenAt};
 ghost use Prim.Native.Nat.{_+_, _≤_, _%_};
 ghost use Rattle.signal.specs.Numbers.{crankbackNumber};
 ghost use Rattle.events.specs.declared.Event.the-variants.{FromParty, FromDomain};
 use events::Act;
 use events::Event;
+use events::Node;
 use signal::Crankback;
 use signal::ReceivedCause;
 use signal::ReroutingCause;
@@ -189,12 +190,31 @@ fn asked(kind: u8, first: u8, second: u8, third: u8, number: u32) -> Request
     plain(kind)
 }
 
-pub fn decode(octets: [u8; 16]) -> Decoded
-    ensures { λ r. ⌜ r ≡ decodedOf octets ⌝ }
+// Which release a kind is: at the destination the calling side's names the connection.
+pub fn kind_at(node: Node, kind: u8) -> u8
+    ensures { λ r. ⌜ r ≡ kindAt node kind ⌝ }
+{
+    match node {
+        Node::Source => kind,
+        Node::Destination => {
+            if kind == 6 {
+                return 7;
+            }
+            if kind == 7 {
+                return 6;
+            }
+            kind
+        }
+    }
+}
+
+pub fn decode(node: Node, octets: [u8; 16]) -> Decoded
+    ensures { λ r. ⌜ r ≡ decodedAt node octets ⌝ }
 {
     let key = number(octets[4], octets[5], octets[6], octets[7]);
     let named = number(octets[8], octets[9], octets[10], octets[11]);
-    let request = asked(octets[0], octets[1], octets[2], octets[3], named);
+    let kind = kind_at(node, octets[0]);
+    let request = asked(kind, octets[1], octets[2], octets[3], named);
     Decoded { key, request }
 }
 
@@ -339,10 +359,23 @@ fn laid_out(key: u32, values: Values) -> [u8; 16]
     ]
 }
 
-pub fn encode(key: u32, act: Act) -> [u8; 16]
-    ensures { λ r. ⌜ r ≡ octetsWritten key act ⌝ }
+fn values_at(node: Node, values: Values) -> Values
+    ensures { λ r. ⌜ r ≡ valuesAt node values ⌝ }
 {
-    laid_out(key, act_values(act))
+    let kind = kind_at(node, values.kind);
+    brought(
+        kind,
+        values.first,
+        values.second,
+        values.third,
+        values.number,
+    )
+}
+
+pub fn encode(node: Node, key: u32, act: Act) -> [u8; 16]
+    ensures { λ r. ⌜ r ≡ writtenAt node key act ⌝ }
+{
+    laid_out(key, values_at(node, act_values(act)))
 }
 
 // The record at a place among octets that were read.

@@ -18,6 +18,7 @@ use prog.Routine.{Routine}
 use prog.Wp.{Heap}
 use Rattle.events.specs.declared.Act.the-variants.{Meets}
 use Rattle.events.specs.declared.Act.{Act}
+use Rattle.events.specs.declared.Node.the-variants.{Source}
 use Rattle.events.specs.declared.Event.{Event}
 use Rattle.events.specs.declared.Event.the-variants.{Connect, Setup}
 use Rattle.lines.specs.Lines.{Page, ascii, putByte, putText, spelled, numberText}
@@ -36,8 +37,8 @@ module _ {M : Type 1} (𝓤 : URA M) (H : Heap 𝓤) (A : Atoms 𝓤) (memory : 
   -- put_event: of a buffer, a place, a key and what is done with it, the place answered, and what is left in the buffer
   abbrev put-event-shuts-out : List ℕ → ℕ → ℕ → Act → ℕ → List ℕ → Type 1
   put-event-shuts-out out at key act r left =
-      (κs : Lfts 1) → NeverHolds (put_event.clauses 𝓤 H A memory run κs (lent out, (at, (key, (act, tt))))
-      .ensures tt r (lent left, (at, (key, (act, tt)))))
+      (κs : Lfts 1) → NeverHolds (put_event.clauses 𝓤 H A memory run κs (lent out, (at, (Source, (key, (act, tt)))))
+      .ensures tt r (lent left, (at, (Source, (key, (act, tt))))))
 
   -- the switchover code 0 is immediate, and 1 clearing (docs/BENCH.md, "script")
   pub code-0-told-as-clearing :
@@ -54,8 +55,8 @@ module _ {M : Type 1} (𝓤 : URA M) (H : Heap 𝓤) (A : Atoms 𝓤) (memory : 
   -- put_keyless: of a buffer, a place and an event, the place answered, and what is left in the buffer
   abbrev put-keyless-shuts-out : List ℕ → ℕ → Event → ℕ → List ℕ → Type 1
   put-keyless-shuts-out out at event r left =
-      (κs : Lfts 1) → NeverHolds (put_keyless.clauses 𝓤 H A memory run κs (lent out, (at, (event, tt)))
-      .ensures tt r (lent left, (at, (event, tt))))
+      (κs : Lfts 1) → NeverHolds (put_keyless.clauses 𝓤 H A memory run κs (lent out, (at, (Source, (event, tt))))
+      .ensures tt r (lent left, (at, (Source, (event, tt)))))
 
   -- no key is told
   pub key-0-told-of-none : (r : ℕ) → put-keyless-shuts-out (replicate 17 0) 0 (Connect 5 true) r (ascii "connect 0 5 yes")

@@ -16,6 +16,8 @@ use Rattle.signal.specs.declared.Wanted.the-variants.{Unnamed, Named}
 use Rattle.events.specs.declared.Event.{Event}
 use Rattle.events.specs.declared.Event.the-variants.{Trigger, PathFound, NoPath, Connect, Setup, FromParty, FromDomain, Ready, Expiry}
 use Rattle.events.specs.declared.Act.{Act}
+use Rattle.events.specs.declared.Node.{Node}
+use Rattle.events.specs.declared.Node.the-variants.{Source, Destination}
 use Rattle.events.specs.declared.Act.the-variants.{Opens, Meets}
 
 -- a number behind a blank
@@ -54,20 +56,30 @@ crankbackText NoCrankback = []
 crankbackText AlternateFound = ascii " alternate"
 crankbackText NoAlternate = ascii " noalternate"
 
-abbrev pub eventName : Event → List ℕ
-eventName Trigger = ascii "trigger"
-eventName PathFound = ascii "path"
-eventName NoPath = ascii "nopath"
-eventName (Connect c policy) = ascii "connect"
-eventName (Setup s n) = ascii "setup"
-eventName (FromParty cause) = ascii "calling"
-eventName (FromDomain c cause back) = ascii "called"
-eventName Ready = ascii "ready"
-eventName Expiry = ascii "expiry"
+-- a release is named by its side: the node's own party is the calling one at the source, and the called one at the destination
+abbrev pub partyText : Node → List ℕ
+partyText Source = ascii "calling"
+partyText Destination = ascii "called"
 
-abbrev pub nameText : Act → List ℕ
-nameText (Opens w) = ascii "open"
-nameText (Meets e) = eventName e
+-- and what comes from across the domain is the other side's
+abbrev pub domainText : Node → List ℕ
+domainText Source = ascii "called"
+domainText Destination = ascii "calling"
+
+abbrev pub eventName : Node → Event → List ℕ
+eventName node Trigger = ascii "trigger"
+eventName node PathFound = ascii "path"
+eventName node NoPath = ascii "nopath"
+eventName node (Connect c policy) = ascii "connect"
+eventName node (Setup s n) = ascii "setup"
+eventName node (FromParty cause) = partyText node
+eventName node (FromDomain c cause back) = domainText node
+eventName node Ready = ascii "ready"
+eventName node Expiry = ascii "expiry"
+
+abbrev pub nameText : Node → Act → List ℕ
+nameText node (Opens w) = ascii "open"
+nameText node (Meets e) = eventName node e
 
 -- what an event brings besides its key
 abbrev pub valuesText : Event → List ℕ
@@ -82,12 +94,12 @@ valuesText Ready = []
 valuesText Expiry = []
 
 -- an event of a call that is known (docs/CELLS.md, "A cell")
-abbrev pub keylessText : Event → List ℕ
-keylessText e = eventName e ++ valuesText e
+abbrev pub keylessText : Node → Event → List ℕ
+keylessText node e = eventName node e ++ valuesText e
 
 abbrev pub broughtText : Act → List ℕ
 broughtText (Opens w) = wantedText w
 broughtText (Meets e) = valuesText e
 
-abbrev pub eventText : ℕ → Act → List ℕ
-eventText key act = nameText act ++ (thenNumber key ++ broughtText act)
+abbrev pub eventText : Node → ℕ → Act → List ℕ
+eventText node key act = nameText node act ++ (thenNumber key ++ broughtText act)

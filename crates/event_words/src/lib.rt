@@ -5,10 +5,12 @@
 ghost use mathlib.Core.Path.{_≡_};
 ghost use Rattle.lines.specs.Lines.{page, putText};
 ghost use Rattle.event_words.specs.Words.{thenNumber, hardText, softText, wantedText, policyText, switchoverText, receivedCauseText};
-ghost use Rattle.event_words.specs.Words.{crankbackText, eventName, nameText, valuesText, keylessText, broughtText, eventText};
+ghost use Rattle.event_words.specs.Words.{crankbackText, partyText, domainText, eventName, nameText};
+ghost use Rattle.event_words.specs.Words.{valuesText, keylessText, broughtText, eventText};
 ghost use Rattle.events.specs.declared.Event.the-variants.{Connect, Setup, FromDomain};
 use events::Act;
 use events::Event;
+use events::Node;
 use signal::Crankback;
 use signal::ReceivedCause;
 use signal::Soft;
@@ -98,8 +100,28 @@ fn put_crankback(out: &mut [u8], at: usize, back: Crankback) -> usize
     }
 }
 
-fn put_event_name(out: &mut [u8], at: usize, event: Event) -> usize
-    ensures { λ r. ⌜ page (now (out .exit)) r ≡ putText (page (now (out .entry)) at) (eventName event) ⌝ }
+// The side of the node's own party.
+fn put_party(out: &mut [u8], at: usize, node: Node) -> usize
+    ensures { λ r. ⌜ page (now (out .exit)) r ≡ putText (page (now (out .entry)) at) (partyText node) ⌝ }
+{
+    match node {
+        Node::Source => lines::put_word(out, at, b"calling"),
+        Node::Destination => lines::put_word(out, at, b"called"),
+    }
+}
+
+// The side across the domain.
+fn put_domain(out: &mut [u8], at: usize, node: Node) -> usize
+    ensures { λ r. ⌜ page (now (out .exit)) r ≡ putText (page (now (out .entry)) at) (domainText node) ⌝ }
+{
+    match node {
+        Node::Source => lines::put_word(out, at, b"called"),
+        Node::Destination => lines::put_word(out, at, b"calling"),
+    }
+}
+
+fn put_event_name(out: &mut [u8], at: usize, node: Node, event: Event) -> usize
+    ensures { λ r. ⌜ page (now (out .exit)) r ≡ putText (page (now (out .entry)) at) (eventName node event) ⌝ }
 {
     match event {
         Event::Trigger => lines::put_word(out, at, b"trigger"),
@@ -107,19 +129,19 @@ fn put_event_name(out: &mut [u8], at: usize, event: Event) -> usize
         Event::NoPath => lines::put_word(out, at, b"nopath"),
         Event::Connect(_, _) => lines::put_word(out, at, b"connect"),
         Event::Setup(_, _) => lines::put_word(out, at, b"setup"),
-        Event::FromParty(_) => lines::put_word(out, at, b"calling"),
-        Event::FromDomain(_, _, _) => lines::put_word(out, at, b"called"),
+        Event::FromParty(_) => put_party(out, at, node),
+        Event::FromDomain(_, _, _) => put_domain(out, at, node),
         Event::Ready => lines::put_word(out, at, b"ready"),
         Event::Expiry => lines::put_word(out, at, b"expiry"),
     }
 }
 
-fn put_name(out: &mut [u8], at: usize, act: Act) -> usize
-    ensures { λ r. ⌜ page (now (out .exit)) r ≡ putText (page (now (out .entry)) at) (nameText act) ⌝ }
+fn put_name(out: &mut [u8], at: usize, node: Node, act: Act) -> usize
+    ensures { λ r. ⌜ page (now (out .exit)) r ≡ putText (page (now (out .entry)) at) (nameText node act) ⌝ }
 {
     match act {
         Act::Opens(_) => lines::put_word(out, at, b"open"),
-        Act::Meets(event) => put_event_name(out, at, event),
+        Act::Meets(event) => put_event_name(out, at, node, event),
     }
 }
 
@@ -168,10 +190,10 @@ fn put_values(out: &mut [u8], at: usize, event: Event) -> usize
 }
 
 // An event of a call that is known.
-pub fn put_keyless(out: &mut [u8], at: usize, event: Event) -> usize
-    ensures { λ r. ⌜ page (now (out .exit)) r ≡ putText (page (now (out .entry)) at) (keylessText event) ⌝ }
+pub fn put_keyless(out: &mut [u8], at: usize, node: Node, event: Event) -> usize
+    ensures { λ r. ⌜ page (now (out .exit)) r ≡ putText (page (now (out .entry)) at) (keylessText node event) ⌝ }
 {
-    let named = put_event_name(out, at, event);
+    let named = put_event_name(out, at, node, event);
     put_values(out, named, event)
 }
 
@@ -185,10 +207,10 @@ fn put_brought(out: &mut [u8], at: usize, act: Act) -> usize
 }
 
 // A line of `script`, without its end.
-pub fn put_event(out: &mut [u8], at: usize, key: u32, act: Act) -> usize
-    ensures { λ r. ⌜ page (now (out .exit)) r ≡ putText (page (now (out .entry)) at) (eventText key act) ⌝ }
+pub fn put_event(out: &mut [u8], at: usize, node: Node, key: u32, act: Act) -> usize
+    ensures { λ r. ⌜ page (now (out .exit)) r ≡ putText (page (now (out .entry)) at) (eventText node key act) ⌝ }
 {
-    let named = put_name(out, at, act);
+    let named = put_name(out, at, node, act);
     let keyed = put_then(out, named, key as u64);
     put_brought(out, keyed, act)
 }

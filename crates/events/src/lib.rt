@@ -6,6 +6,12 @@ use signal::ReceivedCause;
 use signal::Switchover;
 use signal::Wanted;
 
+// An end of a call. It is named only where the two differ: in whose release names a connection, since that comes from across the domain.
+pub enum Node {
+    Source,
+    Destination,
+}
+
 // The events of one call, with their values (01, "Events and rows").
 pub enum Event {
     Trigger,

@@ -7,6 +7,7 @@ mod print;
 ghost use Prim.Native.Nat.{_≤_};
 ghost use lib.ListN.{length};
 use event_record::Request;
+use events::Node;
 use libc::STDERR_FILENO;
 use libc::STDIN_FILENO;
 use libc::STDOUT_FILENO;
@@ -64,7 +65,7 @@ fn list_whole(input: &[u8], have: usize, output: &mut [u8], listed: u64) -> Prog
     let mut place: usize = 0;
     while 16 <= have - place {
         let record = event_record::record_at(input, place);
-        let decoded = event_record::decode(record);
+        let decoded = event_record::decode(Node::Source, record);
         let request = decoded.request;
         count = next(count);
         match request {
@@ -104,7 +105,7 @@ fn refuse(output: &mut [u8], at: usize, count: u64, record: [u8; 16]) -> Progres
     if !write_first(STDOUT_FILENO, output, at) {
         return fails(b"list: writing fails\n");
     }
-    let length = print::put_bad(output, 0, count, event_fault::find(record));
+    let length = print::put_bad(output, 0, count, event_fault::find(Node::Source, record));
     write_first(STDERR_FILENO, output, length);
     ended()
 }

@@ -4,11 +4,12 @@ ghost use Rattle.lines.specs.Lines.{page, putText};
 ghost use Rattle.list.specs.Line.{listedText, recordText, badRecordText, shortRecordText};
 use event_fault::Fault;
 use events::Act;
+use events::Node;
 
 pub(crate) fn put_line(out: &mut [u8], at: usize, count: u64, key: u32, act: Act) -> usize
     ensures { λ r. ⌜ page (now (out .exit)) r ≡ putText (page (now (out .entry)) at) (listedText count key act) ⌝ }
 {
-    let named = event_words::put_event(out, at, key, act);
+    let named = event_words::put_event(out, at, Node::Source, key, act);
     let marked = lines::put_word(out, named, b"  # ");
     let counted = lines::put_number(out, marked, count);
     lines::put_word(out, counted, b"\n")

@@ -17,7 +17,7 @@ pub mod EventRecord
 pub mod EventFault
 pub mod EventWords
 pub mod CauseElement
-pub mod LineWords
+pub mod LineReader
 pub mod ScriptWords
 pub mod ScriptLine
 pub mod Trace

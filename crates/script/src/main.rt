@@ -4,6 +4,7 @@
 // front of a comment are kept, 4,096 at most.
 mod print;
 
+use events::Node;
 use libc::STDIN_FILENO;
 use script_line::Parsed;
 
@@ -80,11 +81,11 @@ fn octet(line: &mut [u8], records: &mut [u8], progress: Progress, octet: u8) -> 
 // The end of a line, or of the input: the line's record, where it names an event.
 fn line_end(line: &[u8], records: &mut [u8], progress: Progress) -> Progress {
     let waiting = progress.waiting;
-    let parsed = script_line::parse(print::first(line, progress.length));
+    let parsed = script_line::parse(Node::Source, print::first(line, progress.length));
     match parsed {
         Parsed::Wordless => progress.next(waiting),
         Parsed::Told(key, act) => {
-            let record = event_record::encode(key, act);
+            let record = event_record::encode(Node::Source, key, act);
             let place = lines::put_word(records, waiting, &record);
             progress.next(place).written_if_full(records)
         }

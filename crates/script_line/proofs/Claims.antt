@@ -8,9 +8,9 @@ use mathlib.Core.Logic.{inl}
 use lib.Dec.{eqb}
 use borrow.Author.Tests.{eqb-true}
 use Rattle.lines.specs.Lines.{ascii}
-use Rattle.line_words.specs.Words.{firstWord, afterWord}
-use Rattle.line_words.specs.Numbers.{numberUpTo}
-use Rattle.line_words.proofs.Claims.{comment-is-no-word, blank-behind-is-no-word}
+use Rattle.line_reader.specs.Words.{firstWord, afterWord}
+use Rattle.line_reader.specs.Numbers.{numberUpTo}
+use Rattle.line_reader.proofs.Claims.{comment-is-no-word, blank-behind-is-no-word}
 use Rattle.signal.specs.declared.Crankback.{Crankback}
 use Rattle.signal.specs.declared.Crankback.the-variants.{NoCrankback, AlternateFound, NoAlternate}
 use Rattle.signal.specs.declared.ReceivedCause.{ReceivedCause}
@@ -22,6 +22,8 @@ use Rattle.signal.specs.declared.Wanted.the-variants.{Unnamed, Named}
 use Rattle.events.specs.declared.Event.{Event}
 use Rattle.events.specs.declared.Event.the-variants.{Trigger, PathFound, NoPath, Connect, Setup, FromParty, FromDomain, Ready, Expiry}
 use Rattle.events.specs.declared.Act.{Act}
+use Rattle.events.specs.declared.Node.{Node}
+use Rattle.events.specs.declared.Node.the-variants.{Source, Destination}
 use Rattle.events.specs.declared.Act.the-variants.{Opens, Meets}
 use Rattle.event_record.specs.Claims.{Fits, CauseFits}
 use Rattle.event_record.proofs.Claims.{read-back}
@@ -209,47 +211,64 @@ nothing-told : (key : ℕ) (act : Act) → readEnd key act [] ≡ Told key act
 unfolding readEnd firstWord
 nothing-told key act = refl
 
-event-told : (key : ℕ) (e : Event) → Fits key (Meets e) → parsedOf (eventText key (Meets e)) ≡ Told key (Meets e)
+-- a release, by the name that its side has at an end
+party-told : (node : Node) (key : ℕ) (cause : ReceivedCause) → key < 4294967296 → CauseFits cause →
+    parsedOf node (eventText node key (Meets (FromParty cause))) ≡ Told key (Meets (FromParty cause))
 unfolding parsedOf plainName fullName nameOf firstWord afterWord
-event-told key Trigger h = keyed-told TriggerName key [] (h .0) tt ∙ nothing-told key (Meets Trigger)
-event-told key PathFound h = keyed-told PathName key [] (h .0) tt ∙ nothing-told key (Meets PathFound)
-event-told key NoPath h = keyed-told NoPathName key [] (h .0) tt ∙ nothing-told key (Meets NoPath)
-event-told key (Connect c policy) h = keyed-told ConnectName key _ (h .0) (event-parted (Connect c policy)) ∙ connects key c policy (h .1)
-event-told key (Setup s n) h = keyed-told SetupName key _ (h .0) (event-parted (Setup s n)) ∙ setups key (s .code) n (h .1 .0) (h .1 .1)
-event-told key (FromParty cause) h = keyed-told CallingName key _ (h .0) (event-parted (FromParty cause)) ∙ calling-told key cause (h .1)
-event-told key (FromDomain c cause back) h =
-    keyed-told CalledName key _ (h .0) (event-parted (FromDomain c cause back)) ∙ called-told key c cause back (h .1 .0) (h .1 .1)
-event-told key Ready h = keyed-told ReadyName key [] (h .0) tt ∙ nothing-told key (Meets Ready)
-event-told key Expiry h = keyed-told ExpiryName key [] (h .0) tt ∙ nothing-told key (Meets Expiry)
+party-told Source key cause h f = keyed-told CallingName key _ h (event-parted (FromParty cause)) ∙ calling-told key cause f
+party-told Destination key cause h f = keyed-told CallingName key _ h (event-parted (FromParty cause)) ∙ calling-told key cause f
 
-opening-told : (key : ℕ) (w : Wanted) → key < 4294967296 → parsedOf (eventText key (Opens w)) ≡ Told key (Opens w)
+domain-told : (node : Node) (key c : ℕ) (cause : ReceivedCause) (back : Crankback) → key < 4294967296 → c < 65536 → CauseFits cause →
+    parsedOf node (eventText node key (Meets (FromDomain c cause back))) ≡ Told key (Meets (FromDomain c cause back))
 unfolding parsedOf plainName fullName nameOf firstWord afterWord
-opening-told key w h = keyed-told OpenName key (wantedText w) h (parted (Opens w)) ∙ opens-wanted key w
+domain-told Source key c cause back h l f =
+    keyed-told CalledName key _ h (event-parted (FromDomain c cause back)) ∙ called-told key c cause back l f
+domain-told Destination key c cause back h l f =
+    keyed-told CalledName key _ h (event-parted (FromDomain c cause back)) ∙ called-told key c cause back l f
 
-line-told : (key : ℕ) (act : Act) → Fits key act → parsedOf (eventText key act) ≡ Told key act
-line-told key (Opens w) h = opening-told key w (h .0)
-line-told key (Meets e) h = event-told key e h
+event-told : (node : Node) (key : ℕ) (e : Event) → Fits key (Meets e) → parsedOf node (eventText node key (Meets e)) ≡ Told key (Meets e)
+unfolding parsedOf plainName fullName nameOf firstWord afterWord
+event-told node key Trigger h = keyed-told TriggerName key [] (h .0) tt ∙ nothing-told key (Meets Trigger)
+event-told node key PathFound h = keyed-told PathName key [] (h .0) tt ∙ nothing-told key (Meets PathFound)
+event-told node key NoPath h = keyed-told NoPathName key [] (h .0) tt ∙ nothing-told key (Meets NoPath)
+event-told node key (Connect c policy) h =
+    keyed-told ConnectName key _ (h .0) (event-parted (Connect c policy)) ∙ connects key c policy (h .1)
+event-told node key (Setup s n) h =
+    keyed-told SetupName key _ (h .0) (event-parted (Setup s n)) ∙ setups key (s .code) n (h .1 .0) (h .1 .1)
+event-told node key (FromParty cause) h = party-told node key cause (h .0) (h .1)
+event-told node key (FromDomain c cause back) h = domain-told node key c cause back (h .0) (h .1 .0) (h .1 .1)
+event-told node key Ready h = keyed-told ReadyName key [] (h .0) tt ∙ nothing-told key (Meets Ready)
+event-told node key Expiry h = keyed-told ExpiryName key [] (h .0) tt ∙ nothing-told key (Meets Expiry)
+
+opening-told : (node : Node) (key : ℕ) (w : Wanted) → key < 4294967296 → parsedOf node (eventText node key (Opens w)) ≡ Told key (Opens w)
+unfolding parsedOf plainName fullName nameOf firstWord afterWord
+opening-told node key w h = keyed-told OpenName key (wantedText w) h (parted (Opens w)) ∙ opens-wanted key w
+
+line-told : (node : Node) (key : ℕ) (act : Act) → Fits key act → parsedOf node (eventText node key act) ≡ Told key act
+line-told node key (Opens w) h = opening-told node key w (h .0)
+line-told node key (Meets e) h = event-told node key e h
 
 pub round-trip : claim.RoundTrip
-round-trip key act h = (line-told key act h, read-back key act h)
+round-trip node key act h = (line-told node key act h, read-back node key act h)
 
 pub written-as-read : claim.WrittenAsRead
-written-as-read line key act e =
-    let fits : Fits key act = fits-of key act (subst Sound e (parsed-sound line)) in
-    (fits, read-back key act fits)
+written-as-read node line key act e =
+    let fits : Fits key act = fits-of key act (subst Sound e (parsed-sound node line)) in
+    (fits, read-back node key act fits)
 
 pub comments-are-not-read : claim.CommentsAreNotRead
-comments-are-not-read line comment =
-    parsed-same (35 ∷ comment) (λ rest. comment-is-no-word rest comment .0) (λ rest. inl (comment-is-no-word rest comment .1)) line
+comments-are-not-read node line comment =
+    parsed-same (35 ∷ comment) (λ rest. comment-is-no-word rest comment .0) (λ rest. inl (comment-is-no-word rest comment .1)) node line
 
 pub blanks-behind-are-not-read : claim.BlanksBehindAreNotRead
-blanks-behind-are-not-read line b blank =
-    parsed-same (b ∷ []) (λ rest. blank-behind-is-no-word rest b blank .0) (λ rest. blank-behind-is-no-word rest b blank .1) line
+blanks-behind-are-not-read node line b blank =
+    parsed-same (b ∷ []) (λ rest. blank-behind-is-no-word rest b blank .0) (λ rest. blank-behind-is-no-word rest b blank .1) node line
 
 pub listed-is-read : claim.ListedIsRead
-listed-is-read key act comment fits =
-    let text = eventText key act in
-    ap parsedOf (sym (append-assoc text (32 ∷ []) (32 ∷ 35 ∷ comment)))
-    ∙ (ap parsedOf (sym (append-assoc (text ++ (32 ∷ [])) (32 ∷ []) (35 ∷ comment)))
-    ∙ (comments-are-not-read ((text ++ (32 ∷ [])) ++ (32 ∷ [])) comment
-    ∙ (blanks-behind-are-not-read (text ++ (32 ∷ [])) 32 refl ∙ (blanks-behind-are-not-read text 32 refl ∙ line-told key act fits))))
+listed-is-read node key act comment fits =
+    let text = eventText node key act in
+    ap (parsedOf node) (sym (append-assoc text (32 ∷ []) (32 ∷ 35 ∷ comment)))
+    ∙ (ap (parsedOf node) (sym (append-assoc (text ++ (32 ∷ [])) (32 ∷ []) (35 ∷ comment)))
+    ∙ (comments-are-not-read node ((text ++ (32 ∷ [])) ++ (32 ∷ [])) comment
+    ∙ (blanks-behind-are-not-read node (text ++ (32 ∷ [])) 32 refl
+    ∙ (blanks-behind-are-not-read node text 32 refl ∙ line-told node key act fits))))

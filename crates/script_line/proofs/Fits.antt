@@ -4,14 +4,15 @@ use native.Mathlib.Omega.{arith}
 use mathlib.Core.Path.{_≡_, refl}
 use mathlib.Core.Bool.{Bool, true, false, cond}
 use mathlib.Core.List.{List}
-use Rattle.line_words.specs.Words.{firstWord, afterWord}
-use Rattle.line_words.specs.Numbers.{numberUpTo}
-use Rattle.line_words.specs.declared.Reading.{Reading}
-use Rattle.line_words.specs.declared.Reading.the-variants.{Counts, NoNumber}
-use Rattle.line_words.proofs.Numbers.{at-most}
+use Rattle.line_reader.specs.Words.{firstWord, afterWord}
+use Rattle.line_reader.specs.Numbers.{numberUpTo}
+use Rattle.line_reader.specs.declared.Reading.{Reading}
+use Rattle.line_reader.specs.declared.Reading.the-variants.{Counts, NoNumber}
+use Rattle.line_reader.proofs.Numbers.{at-most}
 use Rattle.signal.specs.declared.ReceivedCause.{ReceivedCause}
 use Rattle.signal.specs.declared.ReceivedCause.the-variants.{NoCause, WithCause}
 use Rattle.events.specs.declared.Act.{Act}
+use Rattle.events.specs.declared.Node.{Node}
 use Rattle.event_record.specs.Claims.{CauseFits, Fits}
 use Rattle.script_words.specs.declared.What.{What}
 use Rattle.script_line.specs.declared.Name.{Name}
@@ -23,7 +24,7 @@ use Rattle.script_line.specs.declared.Parsed.{Parsed}
 use Rattle.script_line.specs.declared.Parsed.the-variants.{Wordless, Told, Expected}
 use Rattle.script_line.specs.Script.{isWord, nameOf, readEnd, readSoft, readOpen, readPolicy, withNumber, readConnect, readCode}
 use Rattle.script_line.specs.Script.{readIncarnation, readSetup, readCallingCause, readCalling, readCrankback, readCalledCause}
-use Rattle.script_line.specs.Script.{readRelease, readCalled, readArguments, readKeyed, readNamed, parsedOf}
+use Rattle.script_line.specs.Script.{readRelease, readCalled, readArguments, readKeyed, nameAt, readNamed, parsedOf}
 use Rattle.script_line.proofs.Laws.{code-at-most}
 
 abbrev Meaning : Parsed → Type 0
@@ -140,11 +141,13 @@ module _ (key : ℕ) (k : key < 4294967296) where
   arguments-sound ReadyName rest = end-sound key _ rest (k, tt)
   arguments-sound ExpiryName rest = end-sound key _ rest (k, tt)
 
-named-sound : (naming : Naming) (rest : List ℕ) → Sound (readNamed naming rest)
+named-sound : (node : Node) (naming : Naming) (rest : List ℕ) → Sound (readNamed node naming rest)
 unfolding readKeyed
-named-sound NoName rest = expected
-named-sound (Names name) rest = of-number 4294967295 (firstWord rest) _ _ (λ key h. arguments-sound key (omega arith) name (afterWord rest))
+named-sound node NoName rest = expected
+named-sound node (Names name) rest =
+    of-number 4294967295 (firstWord rest) _ _ (λ key h. arguments-sound key (omega arith) (nameAt name node) (afterWord rest))
 
-pub parsed-sound : (line : List ℕ) → Sound (parsedOf line)
+pub parsed-sound : (node : Node) (line : List ℕ) → Sound (parsedOf node line)
 unfolding parsedOf
-parsed-sound line = either (isWord (firstWord line) "") (record { meaning = tt }) (named-sound (nameOf (firstWord line)) (afterWord line))
+parsed-sound node line =
+    either (isWord (firstWord line) "") (record { meaning = tt }) (named-sound node (nameOf (firstWord line)) (afterWord line))

@@ -4,9 +4,9 @@ use native.Mathlib.Omega.{arith}
 use mathlib.Core.Path.{_≡_}
 use mathlib.Core.Bool.{Bool, true, false, cond}
 use mathlib.Core.List.{List}
-use Rattle.line_words.specs.Numbers.{numberUpTo}
-use Rattle.line_words.specs.declared.Reading.the-variants.{Counts}
-use Rattle.line_words.proofs.Numbers.{at-most}
+use Rattle.line_reader.specs.Numbers.{numberUpTo}
+use Rattle.line_reader.specs.declared.Reading.the-variants.{Counts}
+use Rattle.line_reader.proofs.Numbers.{at-most}
 use Rattle.script_line.specs.Script.{isWord, readCode}
 
 pub code-at-most : (word : List ℕ) (n : ℕ) → readCode word ≡ Counts n → n ≤ 255

@@ -7,9 +7,9 @@ use mathlib.Core.List.{List, [], _∷_, _++_}
 use lib.Dec.{ltb, leb}
 use borrow.Author.Tests.{le-ltb, le-leb, ltb-true, ltb-false, leb-true, ne-eqb}
 use Rattle.lines.specs.Lines.{spelled, numberText}
-use Rattle.line_words.specs.Words.{isBlank, isOfWord, front, past, firstWord, afterWord, sameText}
-use Rattle.line_words.specs.Numbers.{isDigit, allDigits, isDecimal, valueFrom, numberUpTo}
-use Rattle.line_words.specs.declared.Reading.the-variants.{Counts}
+use Rattle.line_reader.specs.Words.{isBlank, isOfWord, front, past, firstWord, afterWord, sameText}
+use Rattle.line_reader.specs.Numbers.{isDigit, allDigits, isDecimal, valueFrom, numberUpTo}
+use Rattle.line_reader.specs.declared.Reading.the-variants.{Counts}
 use Rattle.event_words.specs.Words.{thenNumber}
 
 -- digits are octets of a word

@@ -5,9 +5,10 @@ use mathlib.Core.Path.{_≡_, refl, _∙_, ap}
 use mathlib.Core.Bool.{Bool}
 use mathlib.Core.List.{List, _++_}
 use mathlib.Core.Logic.{_⊎_, ⊎-elim}
-use Rattle.line_words.specs.Words.{firstWord, afterWord}
+use Rattle.line_reader.specs.Words.{firstWord, afterWord}
 use Rattle.signal.specs.declared.ReceivedCause.{ReceivedCause}
 use Rattle.events.specs.declared.Act.{Act}
+use Rattle.events.specs.declared.Node.{Node}
 use Rattle.script_words.specs.declared.What.{What}
 use Rattle.script_line.specs.declared.Name.{Name}
 use Rattle.script_line.specs.declared.Name.the-variants.{OpenName, TriggerName, PathName, NoPathName, ConnectName, SetupName}
@@ -122,14 +123,15 @@ module _ (tail : List ℕ) (first : (rest : List ℕ) → firstWord (rest ++ tai
       readArguments name key (afterWord (rest ++ tail)) ≡ readArguments name key (afterWord rest)
   arguments-behind name key rest = behind (readArguments name key) (arguments-same name key) rest
 
-  named-same : (naming : Naming) (rest : List ℕ) → readNamed naming (rest ++ tail) ≡ readNamed naming rest
+  named-same : (node : Node) (naming : Naming) (rest : List ℕ) → readNamed node naming (rest ++ tail) ≡ readNamed node naming rest
   unfolding readKeyed
-  named-same NoName rest = refl
-  named-same (Names name) rest = simp (first, arguments-behind)
+  named-same node NoName rest = refl
+  named-same node (Names name) rest = simp (first, arguments-behind)
 
-  named-behind : (naming : Naming) (rest : List ℕ) → readNamed naming (afterWord (rest ++ tail)) ≡ readNamed naming (afterWord rest)
-  named-behind naming rest = behind (readNamed naming) (named-same naming) rest
+  named-behind : (node : Node) (naming : Naming) (rest : List ℕ) →
+      readNamed node naming (afterWord (rest ++ tail)) ≡ readNamed node naming (afterWord rest)
+  named-behind node naming rest = behind (readNamed node naming) (named-same node naming) rest
 
-  pub parsed-same : (line : List ℕ) → parsedOf (line ++ tail) ≡ parsedOf line
+  pub parsed-same : (node : Node) (line : List ℕ) → parsedOf node (line ++ tail) ≡ parsedOf node line
   unfolding parsedOf
-  parsed-same line = simp (first, named-behind)
+  parsed-same node line = simp (first, named-behind)

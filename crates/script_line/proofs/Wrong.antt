@@ -17,9 +17,10 @@ use prog.Routine.{Routine}
 use prog.Wp.{Heap}
 use Rattle.event_record.specs.Encoded.{octetsWritten}
 use Rattle.events.specs.declared.Act.the-variants.{Meets}
+use Rattle.events.specs.declared.Node.the-variants.{Source}
 use Rattle.events.specs.declared.Event.the-variants.{FromDomain, Setup}
-use Rattle.line_words.specs.Numbers.{numberUpTo}
-use Rattle.line_words.specs.Words.{firstWord, afterWord}
+use Rattle.line_reader.specs.Numbers.{numberUpTo}
+use Rattle.line_reader.specs.Words.{firstWord, afterWord}
 use Rattle.lines.specs.Lines.{ascii}
 use Rattle.script_line.specs.Script.{readCalled, readCode, readCrankback, readEnd, readIncarnation}
 use Rattle.script_line.specs.Script.{fullName, readKeyed, nameOf, parsedOf, plainName, readRelease, readSetup}
@@ -44,9 +45,10 @@ module _ {M : Type 1} (𝓤 : URA M) (H : Heap 𝓤) (A : Atoms 𝓤) (memory : 
   abbrev NeverHolds : SProp 𝓤 → Type 1
   NeverHolds says = ent 𝓤 says (fact 𝓤 ⊥)
 
-  -- parse: of a line, what it is read as
+  -- parse: of a line at the source, what it is read as
   abbrev parse-shuts-out : List ℕ → Parsed → Type 1
-  parse-shuts-out line r = (κs : Lfts 1) → NeverHolds (parse.clauses 𝓤 H A memory run κs (lent line, tt) .ensures tt r (lent line, tt))
+  parse-shuts-out line r =
+      (κs : Lfts 1) → NeverHolds (parse.clauses 𝓤 H A memory run κs (Source, (lent line, tt)) .ensures tt r (Source, (lent line, tt)))
 
   -- `immediate` is the switchover code 0 (docs/BENCH.md, "script")
   pub immediate-is-code-1 :

@@ -4,10 +4,10 @@ use Prim.Native.String.{String}
 use mathlib.Core.Bool.{Bool, true, false, cond}
 use mathlib.Core.List.{List}
 use Rattle.lines.specs.Lines.{ascii}
-use Rattle.line_words.specs.Words.{firstWord, afterWord, sameText}
-use Rattle.line_words.specs.Numbers.{numberUpTo}
-use Rattle.line_words.specs.declared.Reading.{Reading}
-use Rattle.line_words.specs.declared.Reading.the-variants.{Counts, NoNumber}
+use Rattle.line_reader.specs.Words.{firstWord, afterWord, sameText}
+use Rattle.line_reader.specs.Numbers.{numberUpTo}
+use Rattle.line_reader.specs.declared.Reading.{Reading}
+use Rattle.line_reader.specs.declared.Reading.the-variants.{Counts, NoNumber}
 use Rattle.signal.specs.declared.Crankback.the-variants.{NoCrankback, AlternateFound, NoAlternate}
 use Rattle.signal.specs.declared.ReceivedCause.{ReceivedCause}
 use Rattle.signal.specs.declared.ReceivedCause.the-variants.{NoCause, WithCause}
@@ -16,6 +16,8 @@ use Rattle.signal.specs.declared.Soft.the-variants.{NoSoft, Asymmetric, Symmetr
 use Rattle.signal.specs.declared.Wanted.the-variants.{Unnamed, Named as With}
 use Rattle.events.specs.declared.Event.the-variants.{Trigger, PathFound, NoPath, Connect, Setup, FromParty, FromDomain, Ready, Expiry}
 use Rattle.events.specs.declared.Act.{Act}
+use Rattle.events.specs.declared.Node.{Node}
+use Rattle.events.specs.declared.Node.the-variants.{Source, Destination}
 use Rattle.events.specs.declared.Act.the-variants.{Opens, Meets}
 use Rattle.script_line.specs.declared.Parsed.{Parsed}
 use Rattle.script_line.specs.declared.Parsed.the-variants.{Wordless, Told, Expected}
@@ -150,9 +152,24 @@ readArguments ExpiryName key rest = readEnd key (Meets Expiry) rest
 unfoldable pub readKeyed : Name → List ℕ → Parsed
 readKeyed name rest = withNumber (numberUpTo 4294967295 (firstWord rest)) AKey (λ key. readArguments name key (afterWord rest))
 
-abbrev pub readNamed : Naming → List ℕ → Parsed
-readNamed NoName rest = Expected AnEvent
-readNamed (Names name) rest = readKeyed name rest
+-- the name of a release at an end: at the destination it is the calling side's that names a connection
+abbrev pub nameAt : Name → Node → Name
+nameAt OpenName node = OpenName
+nameAt TriggerName node = TriggerName
+nameAt PathName node = PathName
+nameAt NoPathName node = NoPathName
+nameAt ConnectName node = ConnectName
+nameAt SetupName node = SetupName
+nameAt CallingName Source = CallingName
+nameAt CallingName Destination = CalledName
+nameAt CalledName Source = CalledName
+nameAt CalledName Destination = CallingName
+nameAt ReadyName node = ReadyName
+nameAt ExpiryName node = ExpiryName
 
-unfoldable pub parsedOf : List ℕ → Parsed
-parsedOf line = cond (isWord (firstWord line) "") Wordless (readNamed (nameOf (firstWord line)) (afterWord line))
+abbrev pub readNamed : Node → Naming → List ℕ → Parsed
+readNamed node NoName rest = Expected AnEvent
+readNamed node (Names name) rest = readKeyed (nameAt name node) rest
+
+unfoldable pub parsedOf : Node → List ℕ → Parsed
+parsedOf node line = cond (isWord (firstWord line) "") Wordless (readNamed node (nameOf (firstWord line)) (afterWord line))

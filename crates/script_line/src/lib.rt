@@ -4,17 +4,18 @@
 // The name of the event is judged first, then the key, then the rest from left to right.
 ghost use mathlib.Core.Path.{_≡_};
 ghost use lib.ListN.{drop};
-ghost use Rattle.line_words.specs.Words.{firstWord};
+ghost use Rattle.line_reader.specs.Words.{firstWord};
 ghost use Rattle.script_line.specs.Script.{plainName, fullName, nameOf, readEnd, readServices, readSoft, readOpen, readPolicy};
 ghost use Rattle.script_line.specs.Script.{readConnect, readCode, readIncarnation, readSetup, readCallingCause, readCalling};
 ghost use Rattle.script_line.specs.Script.{readCrankback, readCalledCause, readRelease, readCalled, readArguments, readKeyed};
-ghost use Rattle.script_line.specs.Script.{parsedOf};
+ghost use Rattle.script_line.specs.Script.{nameAt, parsedOf};
 use events::Act;
 use events::Event;
-use line_words::Reading;
-use line_words::after;
-use line_words::is;
-use line_words::number;
+use events::Node;
+use line_reader::Reading;
+use line_reader::after;
+use line_reader::is;
+use line_reader::number;
 use script_words::What;
 use signal::Crankback;
 use signal::ReceivedCause;
@@ -365,8 +366,32 @@ fn named(line: &[u8]) -> Naming
     }
 }
 
-pub fn parse(line: &[u8]) -> Parsed
-    ensures { λ r. ⌜ r ≡ parsedOf (now (line .entry)) ⌝ }
+// The name of a release at an end: at the destination it is the calling side's that names a connection.
+fn name_at(name: Name, node: Node) -> Name
+    ensures { λ r. ⌜ r ≡ nameAt name node ⌝ }
+{
+    match name {
+        Name::OpenName => Name::OpenName,
+        Name::TriggerName => Name::TriggerName,
+        Name::PathName => Name::PathName,
+        Name::NoPathName => Name::NoPathName,
+        Name::ConnectName => Name::ConnectName,
+        Name::SetupName => Name::SetupName,
+        Name::CallingName => match node {
+            Node::Source => Name::CallingName,
+            Node::Destination => Name::CalledName,
+        },
+        Name::CalledName => match node {
+            Node::Source => Name::CalledName,
+            Node::Destination => Name::CallingName,
+        },
+        Name::ReadyName => Name::ReadyName,
+        Name::ExpiryName => Name::ExpiryName,
+    }
+}
+
+pub fn parse(node: Node, line: &[u8]) -> Parsed
+    ensures { λ r. ⌜ r ≡ parsedOf node (now (line .entry)) ⌝ }
 {
     if is(line, 0, b"") {
         return Parsed::Wordless;
@@ -374,6 +399,6 @@ pub fn parse(line: &[u8]) -> Parsed
     let event = named(line);
     match event {
         Naming::NoName => Parsed::Expected(What::AnEvent),
-        Naming::Names(name) => keyed(line, after(line, 0), name),
+        Naming::Names(name) => keyed(line, after(line, 0), name_at(name, node)),
     }
 }

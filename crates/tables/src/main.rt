@@ -9,6 +9,7 @@ mod print;
 ghost use Prim.Native.Nat.{_+_, _*_, _≤_};
 ghost use lib.ListN.{length};
 use event_record::Request;
+use events::Node;
 use libc::STDIN_FILENO;
 
 // A loop has to end, and nothing says that the input does: so the cases are counted, up to a number that no run reaches.
@@ -54,7 +55,7 @@ fn answer_body(number: u64, count: usize, body: &[u8]) -> bool
 {
     let records = octets::records(body, count);
     let table = records.table;
-    let event = event_record::decode(event_record::record_at(body, count * 20));
+    let event = event_record::decode(Node::Source, event_record::record_at(body, count * 20));
     if !records.named {
         return print::bad();
     }

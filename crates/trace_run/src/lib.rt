@@ -13,7 +13,10 @@ use admission::Admission;
 use call::Call;
 use call::Outcome;
 use event_record::Request;
+use event_record::decode;
+use event_record::record_at;
 use events::Act;
+use events::Node;
 use signal::Answer;
 use signal::Signal;
 use trace_line::Columns;
@@ -131,7 +134,7 @@ pub fn run(table: [Call; 64], input: &[u8], out: &mut [u8], columns: Columns, st
     let records = input.len() / 16;
     let mut index: usize = 0;
     while index < records {
-        let decoded = event_record::decode(event_record::record_at(input, index * 16));
+        let decoded = decode(Node::Source, record_at(input, index * 16));
         let request = decoded.request;
         let Request::Asks(act) = request else {
             at = lines::put_word(out, at, b"bad\n");

@@ -4,7 +4,8 @@ use Rattle.event_record.proofs.decode.Statement.{statement}
 use Rattle.event_record.proofs.decode.Tie as tie
 
 returns : tie.Need-returns
-returns c = simp (c .asked .ensures, c .before .number2 .ensures, c .before .before .number .ensures)
+returns c =
+    simp (c .asked .ensures, c .before .kind-at .ensures, c .before .before .number2 .ensures, c .before .before .before .number .ensures)
 
 pub decode-spec : {M : Type 1} → statement M
 decode-spec =
@@ -21,6 +22,7 @@ decode-spec =
     (λ c. search needs)
     (λ c κs. search needs)
     (λ c. search needs)
+    (λ c κs. search needs)
     (λ c. search needs)
     (λ c. search needs)
     (λ c. search needs)

@@ -19,16 +19,16 @@ returns-5 : tie.Need-returns-5
 returns-5 c = rw (c .before .before .before .before .before .enum-told5 .given .1) (c .before .before .put-word5 .ensures)
 
 returns-6 : tie.Need-returns-6
-returns-6 c = rw (c .before .before .before .before .before .enum-told6 .given .1) (c .before .before .put-word6 .ensures)
+returns-6 c = rw (c .before .before .before .before .enum-told6 .given .1) (c .before .before .put-party .ensures)
 
 returns-7 : tie.Need-returns-7
-returns-7 c = rw (c .before .before .before .before .before .enum-told7 .given .1) (c .before .before .put-word7 .ensures)
+returns-7 c = rw (c .before .before .before .before .enum-told7 .given .1) (c .before .before .put-domain .ensures)
 
 returns-8 : tie.Need-returns-8
-returns-8 c = rw (c .before .before .before .before .before .enum-told8 .given .1) (c .before .before .put-word8 .ensures)
+returns-8 c = rw (c .before .before .before .before .before .enum-told8 .given .1) (c .before .before .put-word6 .ensures)
 
 returns-9 : tie.Need-returns-9
-returns-9 c = rw (c .before .before .before .before .before .enum-told9 .given .1) (c .before .before .put-word9 .ensures)
+returns-9 c = rw (c .before .before .before .before .before .enum-told9 .given .1) (c .before .before .put-word7 .ensures)
 
 pub put-event-name-spec : {M : Type 1} → statement M
 put-event-name-spec =
@@ -50,9 +50,7 @@ put-event-name-spec =
     (λ c. search needs)
     (λ c κs. search needs)
     (λ c. search needs)
-    (λ c. search needs)
     (λ c κs. search needs)
-    (λ c. search needs)
     (λ c. search needs)
     (λ c κs. search needs)
     (λ c. search needs)

@@ -1,7 +1,7 @@
 -- `calling` meets its contract. Assumes nothing.
 use mathlib.Core.Path.{sym, _∙_}
 use borrow.Author.Needs.{needs}
-use Rattle.line_words.proofs.Laws.{behind}
+use Rattle.line_reader.proofs.Laws.{behind}
 use Rattle.script_line.specs.Script.{readCalling}
 use Rattle.script_line.proofs.calling.Statement.{statement}
 use Rattle.script_line.proofs.calling.Tie as tie

@@ -2,8 +2,8 @@
 use mathlib.Core.Path.{sym, _∙_}
 use native.Mathlib.Omega.{arith}
 use borrow.Author.Needs.{needs}
-use Rattle.line_words.proofs.Laws.{behind}
-use Rattle.line_words.proofs.Numbers.{at-most}
+use Rattle.line_reader.proofs.Laws.{behind}
+use Rattle.line_reader.proofs.Numbers.{at-most}
 use Rattle.script_line.specs.Script.{readConnect}
 use Rattle.script_line.proofs.connect.Statement.{statement}
 use Rattle.script_line.proofs.connect.Tie as tie

@@ -1,7 +1,7 @@
 -- `parse` meets its contract. Assumes nothing.
 use mathlib.Core.Path.{sym, _∙_}
 use borrow.Author.Needs.{needs}
-use Rattle.line_words.proofs.Laws.{behind}
+use Rattle.line_reader.proofs.Laws.{behind}
 use Rattle.script_line.specs.Script.{parsedOf}
 use Rattle.script_line.proofs.parse.Statement.{statement}
 use Rattle.script_line.proofs.parse.Tie as tie
@@ -22,11 +22,11 @@ returns-3 : tie.Need-returns-3
 unfolding parsedOf
 returns-3 c =
     rw (
-      sym (c .before .before .before .before .before .before .before .is .ensures)
-          ∙ c .before .before .before .before .before .before .if1 .left,
-      sym (c .before .before .before .before .before .named .ensures) ∙ c .before .before .before .event .given .1,
-      sym (behind (c .before .before .before .before .before .before .before .before .before .before .args .line .now) 0 _
-          (c .before .after .ensures)),
+      sym (c .before .before .before .before .before .before .before .before .is .ensures) ∙ c .before .before .before .before .before .before .before .if1 .left,
+      sym (c .before .before .before .before .before .before .named .ensures) ∙ c .before .before .before .before .event .given .1,
+      sym (c .before .name-at .ensures),
+      sym (behind (c .before .before .before .before .before .before .before .before .before .before .before .args .line .now) 0 _
+          (c .before .before .after .ensures)),
     ) (c .keyed .ensures)
 
 pub parse-spec : {M : Type 1} → statement M
@@ -39,6 +39,7 @@ parse-spec =
     (λ c κs. search needs)
     (λ c. search needs)
     (λ c. search needs)
+    (λ c κs. search needs)
     (λ c κs. search needs)
     (λ c κs. search needs)
     returns-2

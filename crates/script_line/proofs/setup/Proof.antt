@@ -2,7 +2,7 @@
 use mathlib.Core.Path.{sym, _∙_}
 use native.Mathlib.Omega.{arith}
 use borrow.Author.Needs.{needs}
-use Rattle.line_words.proofs.Laws.{behind}
+use Rattle.line_reader.proofs.Laws.{behind}
 use Rattle.script_line.proofs.Laws.{code-at-most}
 use Rattle.script_line.specs.Script.{readSetup}
 use Rattle.script_line.proofs.setup.Statement.{statement}
