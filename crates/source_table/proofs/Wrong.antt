@@ -110,10 +110,10 @@ module _ {M : Type 1} (𝓤 : URA M) (H : Heap 𝓤) (A : Atoms 𝓤) (memory : 
       fact-mono 𝓤 _ _ (λ h. let z : _≡_ {A = ℕ} 0 _ = ap (λ (ys : List Call). getD ys 1 emptied .key) (h .1) in omega arith)
 
   -- and under the key that is named, not under 7 as in the bench run
-  pub opening-under-key-7 : (d : Done) → handle-shuts-out (emptied ∷ []) 9 (Opens Unnamed) d (idle 7 ∷ [])
+  pub opening-under-key-7 : (d : Done) (c : Call) → c .key ≡ 7 → handle-shuts-out (emptied ∷ []) 9 (Opens Unnamed) d (c ∷ [])
   unfolding readFrom has distinctOf
-  opening-under-key-7 d κs =
-      fact-mono 𝓤 _ _ (λ h. let z : _≡_ {A = ℕ} 7 _ = ap (λ (ys : List Call). getD ys 0 emptied .key) (h .1) in omega arith)
+  opening-under-key-7 d c k κs =
+      fact-mono 𝓤 _ _ (λ h. let z : c .key ≡ 9 = ap (λ (ys : List Call). getD ys 0 emptied .key) (h .1) in omega arith)
 
   -- an event sends the signals of its call: a release from the calling side goes on
   pub signals-dropped :
@@ -170,7 +170,7 @@ module _ {M : Type 1} (𝓤 : URA M) (H : Heap 𝓤) (A : Atoms 𝓤) (memory : 
   pub last-number-0-is-fit :
       (after : List Call) (signals : List Signal) →
       handle64-shuts-out
-      (record { key = 7; hard = true; soft = NoSoft; state = HardWaiting; last = 0; remote = 0 } ∷ replicate 63 emptied) 7 (Meets Trigger)
+      (record { key = 7; hard = true; soft = Symmetric; state = HardWaiting; last = 0; remote = 0 } ∷ replicate 63 emptied) 7 (Meets Trigger)
       (record { table = after; done = answering WasDone signals })
   unfolding readFrom has distinctOf
   last-number-0-is-fit after signals =
@@ -180,7 +180,7 @@ module _ {M : Type 1} (𝓤 : URA M) (H : Heap 𝓤) (A : Atoms 𝓤) (memory : 
   pub equal-held-numbers-are-fit :
       (after : List Call) (signals : List Signal) →
       handle64-shuts-out
-      (record { key = 7; hard = true; soft = NoSoft; state = Awaiting 1 1; last = 1; remote = 0 } ∷ replicate 63 emptied) 7
+      (record { key = 7; hard = true; soft = Symmetric; state = Awaiting 1 1; last = 1; remote = 0 } ∷ replicate 63 emptied) 7
       (Meets Trigger) (record { table = after; done = answering WasDone signals })
   unfolding readFrom has distinctOf
   equal-held-numbers-are-fit after signals =

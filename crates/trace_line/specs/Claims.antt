@@ -3,7 +3,7 @@ use Prim.Native.Nat.{ℕ}
 use mathlib.Core.Bool.{true}
 use mathlib.Core.List.{List, [], _∷_, _++_}
 use mathlib.Core.Path.{_≡_}
-use Rattle.lines.specs.Lines.{ascii, newLine}
+use Rattle.lines.specs.Lines.{ascii}
 use Rattle.signal.specs.declared.Answer.the-variants.{Done, NotHeld}
 use Rattle.signal.specs.declared.Kind.the-variants.{IncumbentRelease}
 use Rattle.signal.specs.declared.SentCause.the-variants.{Numbered}
@@ -17,7 +17,7 @@ use Rattle.trace_line.specs.Line.{firstLine, lineText}
 
 -- a line of its own
 abbrev pub line : List ℕ → List ℕ
-line text = text ++ newLine
+line text = text ++ (10 ∷ [])
 
 -- The first line is always the same bytes: of the trace as 01, "The trace", prints it, of the watch as docs/BENCH.md does.
 abbrev pub FirstLines : Type 0
