@@ -1,9 +1,11 @@
-"""What the tests of the bench share: the programs of both sides, the count of what passed, and how a difference is told."""
+"""What the tests of the bench share: the programs of both sides, and how a difference is told."""
 import concurrent.futures
 import os
 import pathlib
 import subprocess
-import sys
+
+import tally
+from tally import count, end
 
 ROOT = pathlib.Path(__file__).resolve().parents[1]
 ORACLE = ROOT / "target/oracle/release/oracle"
@@ -12,21 +14,7 @@ WORKERS = 2
 SHOWN = 10  # records that are shown up to a difference
 LONG = bool(os.environ.get("LONG_TESTS"))
 
-passed = failed = 0
 commands = {}
-
-
-def count(what, faults):
-    global passed, failed
-    for fault in faults:
-        print(fault)
-    print(("FAILED: " if faults else "ok: ") + what, flush=True)
-    passed, failed = passed + (not faults), failed + bool(faults)
-
-
-def end():
-    print(f"{passed} passed, {failed} failed")
-    sys.exit(1 if failed else 0)
 
 
 def need(*names):
@@ -38,7 +26,7 @@ def need(*names):
             count(f"the proved program {name} is there", [found.stderr.strip()])
     if not ORACLE.is_file():
         count("the independent program is there", [f"{ORACLE.relative_to(ROOT)} is missing: tests/outside/30-oracle builds it"])
-    if failed:
+    if tally.failed:
         end()
 
 
