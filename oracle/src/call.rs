@@ -42,8 +42,9 @@ pub struct Services {
 }
 
 impl Services {
-    /// Taken where an opening names none (01, "The table and its records").
-    pub const UNNAMED: Self = Self { hard: true, soft: Soft::None };
+    /// Taken where an opening names none (02, Ask 1). It amends the sentence on the default in 01,
+    /// "The table and its records", which has soft none.
+    pub const UNNAMED: Self = Self { hard: true, soft: Soft::Asymmetric };
 }
 
 /// The states of 6.2.3, each with the connection numbers that 01 lets it hold.

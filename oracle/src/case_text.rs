@@ -11,7 +11,7 @@ const TRIGGERED: [u8; 20] = [0, 0, 1, 2, 0, 1, 2, 9, 9, 9, 9, 9, 3, 4, 5, 6, 7, 
 const EMPTY: [u8; 20] = [0, 0, 0, 0, 0, 0, 0, 9, 9, 9, 9, 9, 0, 0, 0, 0, 0, 0, 9, 9];
 /// B13: connect 4, policy yes.
 const CONNECT: [u8; 16] = [4, 1, 0, 0, 0, 0, 0, 7, 0, 0, 0, 4, 0, 0, 0, 0];
-/// An opening of key 9 without services.
+/// An opening of key 9 without named services: hard on, soft asymmetric (02, Ask 1).
 const OPENING: [u8; 16] = [0, 0, 0, 0, 0, 0, 0, 9, 0, 0, 0, 0, 0, 0, 0, 0];
 
 const CONNECTED: &str = "7 1 2 1 4 0 4 5\n258 0 1 2 0 0 772 84281096\n0 0 0 0 0 0 0 0\n";
@@ -53,7 +53,7 @@ fn cases_are_counted_and_printed_whole() {
     let full = case(&[PROCEEDING, TRIGGERED], OPENING);
     let unfit = case(&[PROCEEDING, TRIGGERED, PROCEEDING], CONNECT);
     let none = case(&[], OPENING);
-    text += &format!("case 2 answer 0 n 3 -\n{UNTOUCHED}9 1 0 1 1 0 1 0\n");
+    text += &format!("case 2 answer 0 n 3 -\n{UNTOUCHED}9 1 1 1 1 0 1 0\n");
     text += &format!("case 3 answer 104 n 2 -\n{UNTOUCHED}");
     text += &format!("case 4 answer 101 n 3 -\n{UNTOUCHED}7 1 2 5 3 4 4 5\n");
     text += "case 5 answer 104 n 0 -\n";

@@ -84,7 +84,7 @@ fn release_octets(kind: u8, cause: Option<ReroutingCause>, crankback: Crankback)
 }
 
 /// "byte 1 is 0 for default services (bytes 2 and 3 then not read) or 1 for named, byte 2 hard 0 or
-/// 1, byte 3 soft 0 to 2"
+/// 1, byte 3 soft 0 to 2". Byte 1 value 0 keeps this meaning under another default (02, Ask 1).
 fn services(named: u8, hard: u8, soft: u8) -> Option<Option<Services>> {
     match flag(named)? {
         false => Some(None),

@@ -82,6 +82,8 @@ mod table_refusals;
 mod table_run;
 #[cfg(test)]
 mod trace_text;
+#[cfg(test)]
+mod unnamed_services;
 
 use std::env;
 use std::ffi::OsString;

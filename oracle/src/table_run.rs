@@ -8,9 +8,10 @@ use crate::words::SignalWords;
 
 const OPENING: Request = Request::Opening(Some(SERVICES));
 
+/// A call that was opened without named services (02, Ask 1).
 fn idle(key: u32) -> Call {
     let state = State::ReroutingIdle { incumbent: 1 };
-    Call { key, hard: true, soft: Soft::None, state, last: 1, remote: 0 }
+    Call { key, hard: true, soft: Soft::Asymmetric, state, last: 1, remote: 0 }
 }
 
 /// The table but for the record at a place.
@@ -86,14 +87,16 @@ fn emptied_record_is_used_again_under_the_same_key() {
     assert_eq!(table, [idle(1), idle(7), Call::EMPTY]);
 }
 
-/// "An opening that names no services takes hard on, soft none"; hard off with soft none may be
-/// named (decision 14).
+/// Where none are named: hard on and soft asymmetric (02, Ask 1, which amends 01's sentence on the
+/// default). Soft none may be named, also with hard off (decision 14).
 #[test]
 fn services_are_those_named() {
     let bare = Services { hard: false, soft: Soft::None };
+    let hard_alone = Services { hard: true, soft: Soft::None };
     for (named, record) in [
-        (None, "7 1 0 1 1 0 1 0"),
+        (None, "7 1 1 1 1 0 1 0"),
         (Some(bare), "7 0 0 1 1 0 1 0"),
+        (Some(hard_alone), "7 1 0 1 1 0 1 0"),
         (Some(SERVICES), "7 1 2 1 1 0 1 0"),
     ] {
         let mut table = [Call::EMPTY];

@@ -1,8 +1,9 @@
 //! The words that events, answers and signals are made of.
 //!
 //! Citations, here and in every other file: `01` is the scope document, with the heading or the
-//! sentence meant; a bare number such as 6.2.4.2 is a section of af-cs-0173.000, `D17` an item of
-//! its Annex D; `decision 5` is a numbered decision on a point that those two leave open.
+//! sentence meant; `02` is the document of follow-up requests, with the ask meant, and what it asks
+//! amends 01; a bare number such as 6.2.4.2 is a section of af-cs-0173.000, `D17` an item of its
+//! Annex D; `decision 5` is a numbered decision on a point that those leave open.
 
 /// A Rerouting release cause, by its number.
 #[derive(Clone, Copy, Debug, PartialEq, Eq)]

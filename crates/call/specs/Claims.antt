@@ -10,17 +10,15 @@ use mathlib.Core.Logic.{_↔_, _⊎_}
 use mathlib.Core.Path.{_≡_}
 use lib.Dec.{ltb}
 use lib.ListN.{length}
+use Rattle.signal.specs.Claims.{TakesServices}
 use Rattle.signal.specs.Counting.{Honest, count, endedSent, inOrder, named, ofKind, withCode21}
 use Rattle.signal.specs.Numbers.{answerNumber}
 use Rattle.signal.specs.Signals.{places}
 use Rattle.signal.specs.declared.Kind.the-variants.{ConnectRequest, IncumbentRelease, NoSignal, Rejection, ReroutingRelease, SetupRequest}
 use Rattle.signal.specs.declared.Kind.the-variants.{Switch, TimerStart, TimerStop}
-use Rattle.signal.specs.declared.Services.{Services}
 use Rattle.signal.specs.declared.Signal.{Signal}
-use Rattle.signal.specs.declared.Soft.the-variants.{NoSoft}
 use Rattle.signal.specs.declared.Switchover.{Switchover}
 use Rattle.signal.specs.declared.Wanted.{Wanted}
-use Rattle.signal.specs.declared.Wanted.the-variants.{Named, Unnamed}
 use Rattle.events.specs.Events.{isExpiry, receivedIn, reported}
 use Rattle.events.specs.declared.Event.{Event}
 use Rattle.rows.specs.Cases.{Standing}
@@ -53,12 +51,11 @@ OpensWithOne =
     × ((o .signals ≡ places [])
     × ((o .call .key ≡ key) × ((o .call .state ≡ Idle 1) × ((o .call .last ≡ 1) × (o .call .remote ≡ 0)))))
 
--- 01, "The table and its records": an opening that names no services takes hard on and soft none; one that names them takes those.
+-- 01, "The table and its records"; 02, Ask 1: an opening's record has the services that it names, or the default.
 abbrev pub OpensWithServices : Type 0
 OpensWithServices =
     (key : ℕ) (wanted : Wanted) (o : Outcome) → o ≡ openedFor key wanted →
-    (wanted ≡ Unnamed → (o .call .hard ≡ true) × (o .call .soft ≡ NoSoft))
-    × ((s : Services) → wanted ≡ Named s → (o .call .hard ≡ s .hard) × (o .call .soft ≡ s .soft))
+    TakesServices wanted (o .call .hard) (o .call .soft)
 
 -- a number, or the one number of a list
 abbrev pub numberElse : ℕ → List ℕ → ℕ

@@ -30,7 +30,7 @@ use Rattle.signal.specs.declared.SentCause.the-variants.{Absent, Numbere
 use Rattle.signal.specs.declared.SentCause.{SentCause}
 use Rattle.signal.specs.declared.Services.{Services}
 use Rattle.signal.specs.declared.Signal.{Signal}
-use Rattle.signal.specs.declared.Soft.the-variants.{Asymmetric, Symmetric}
+use Rattle.signal.specs.declared.Soft.the-variants.{Asymmetric, NoSoft, Symmetric}
 use Rattle.signal.specs.declared.Soft.{Soft}
 use Rattle.signal.specs.declared.Switchover.{Switchover}
 use Rattle.signal.specs.declared.Wanted.the-variants.{Unnamed}
@@ -101,11 +101,15 @@ module _ {M : Type 1} (𝓤 : URA M) (H : Heap 𝓤) (A : Atoms 𝓤) (memory : 
   abbrev services-shuts-out : Wanted → Services → Type 1
   services-shuts-out w r = NeverHolds (Wanted-services.clauses 𝓤 H A memory run tt (w, tt) .ensures tt r (w, tt))
 
-  -- an opening that names none takes hard on (01, "The table and its records")
+  -- an opening that names none takes hard on (02, Ask 1)
   pub default-without-hard : (soft : Soft) → services-shuts-out Unnamed (record { hard = false; soft = soft })
   default-without-hard soft = fact-mono 𝓤 _ _ (λ h. let z : _≡_ {A = ℕ} 0 _ = ap (λ (s : Services). cond (s .hard) 1 0) h in omega arith)
 
-  -- and soft none
+  -- and soft asymmetric: not none, as before Ask 1, and not symmetric
+  pub default-with-soft-none : (hard : Bool) → services-shuts-out Unnamed (record { hard = hard; soft = NoSoft })
+  default-with-soft-none hard =
+      fact-mono 𝓤 _ _ (λ h. let z : _≡_ {A = ℕ} 0 _ = ap (λ (s : Services). softNumber (s .soft)) h in omega arith)
+
   pub default-with-symmetric-soft : (hard : Bool) → services-shuts-out Unnamed (record { hard = hard; soft = Symmetric })
   default-with-symmetric-soft hard =
       fact-mono 𝓤 _ _ (λ h. let z : _≡_ {A = ℕ} 2 _ = ap (λ (s : Services). softNumber (s .soft)) h in omega arith)

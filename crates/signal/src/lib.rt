@@ -1,7 +1,7 @@
 // What both ends of a call say: causes, signals, answers, services, and the numbering of connections.
 //
-// Citations in this repository: "01" is the scope document with its heading or row, a bare section number (6.2.4.2) or Annex item (D17-5)
-// is of the standard, af-cs-0173.000, and "decision 7" is a point of docs/DECISIONS.md.
+// Citations in this repository: "01" is the scope document with its heading or row, "02, Ask 1" a request that followed it, a bare section
+// number (6.2.4.2) or Annex item (D17-5) is of the standard, af-cs-0173.000, and "decision 7" is a point of docs/DECISIONS.md.
 //
 // Everything here is plain data by value. The meanings stand in specs/: Causes, Signals, Numbers.
 ghost use mathlib.Core.Path.{_≡_};
@@ -138,14 +138,14 @@ pub enum Wanted {
 }
 
 impl Wanted {
-    // The services that an opening takes.
+    // The services that an opening takes: those that it names, or the default (02, Ask 1).
     pub fn services(self) -> Services
         ensures { λ r. ⌜ r ≡ servicesOf self ⌝ }
     {
         match self {
             Wanted::Unnamed => Services {
                 hard: true,
-                soft: Soft::NoSoft,
+                soft: Soft::Asymmetric,
             },
             Wanted::Named(services) => services,
         }

@@ -100,38 +100,42 @@ story =
     -- 01, Soft Proceeding, incumbent, hard off: no Rerouting cause
     ∷ storyLine (7 ∷ 0 ∷ 0 ∷ 0 ∷ 0 ∷ 0 ∷ 0 ∷ 7 ∷ 0 ∷ 0 ∷ 0 ∷ 1 ∷ 0 ∷ 0 ∷ 0 ∷ 0 ∷ []) "36 0 0 0 0 0 0 release calling, release rerouting 2"
     -- default services
-    -- 01, openings: hard on, soft none; bytes 2 and 3 are not read
+    -- 02, Ask 1: hard on, soft asymmetric; bytes 2 and 3 are not read
     ∷ storyLine (0 ∷ 0 ∷ 0 ∷ 2 ∷ 0 ∷ 0 ∷ 0 ∷ 7 ∷ 0 ∷ 0 ∷ 0 ∷ 0 ∷ 0 ∷ 0 ∷ 0 ∷ 0 ∷ []) "37 0 1 1 0 0 1 -"
-    -- 106: a trigger with soft none
-    ∷ storyLine (1 ∷ 0 ∷ 0 ∷ 0 ∷ 0 ∷ 0 ∷ 0 ∷ 7 ∷ 0 ∷ 0 ∷ 0 ∷ 0 ∷ 0 ∷ 0 ∷ 0 ∷ 0 ∷ []) "38 106 1 1 0 0 1 -"
+    -- 106: a setup without symmetric soft
+    ∷ storyLine (5 ∷ 1 ∷ 0 ∷ 0 ∷ 0 ∷ 0 ∷ 0 ∷ 7 ∷ 0 ∷ 0 ∷ 0 ∷ 1 ∷ 0 ∷ 0 ∷ 0 ∷ 0 ∷ []) "38 106 1 1 0 0 1 -"
+    -- 01, Soft trigger: Soft Triggered (1)
+    ∷ storyLine (1 ∷ 0 ∷ 0 ∷ 0 ∷ 0 ∷ 0 ∷ 0 ∷ 7 ∷ 0 ∷ 0 ∷ 0 ∷ 0 ∷ 0 ∷ 0 ∷ 0 ∷ 0 ∷ []) "39 0 4 1 0 0 1 -"
+    -- 01, No path: Idle (1)
+    ∷ storyLine (3 ∷ 0 ∷ 0 ∷ 0 ∷ 0 ∷ 0 ∷ 0 ∷ 7 ∷ 0 ∷ 0 ∷ 0 ∷ 0 ∷ 0 ∷ 0 ∷ 0 ∷ 0 ∷ []) "40 0 1 1 0 0 1 -"
     -- 6.2.4.2 case 2: none came, and hard is on; byte 2 is not read
-    ∷ storyLine (6 ∷ 0 ∷ 77 ∷ 2 ∷ 0 ∷ 0 ∷ 0 ∷ 7 ∷ 0 ∷ 0 ∷ 0 ∷ 0 ∷ 0 ∷ 0 ∷ 0 ∷ 0 ∷ []) "39 0 0 0 0 0 0 release incumbent 1 #1"
+    ∷ storyLine (6 ∷ 0 ∷ 77 ∷ 2 ∷ 0 ∷ 0 ∷ 0 ∷ 7 ∷ 0 ∷ 0 ∷ 0 ∷ 0 ∷ 0 ∷ 0 ∷ 0 ∷ 0 ∷ []) "41 0 0 0 0 0 0 release incumbent 1 #1"
     -- hard off, soft none
     -- 01, openings
-    ∷ storyLine (0 ∷ 1 ∷ 0 ∷ 0 ∷ 0 ∷ 0 ∷ 0 ∷ 7 ∷ 0 ∷ 0 ∷ 0 ∷ 0 ∷ 0 ∷ 0 ∷ 0 ∷ 0 ∷ []) "40 0 1 1 0 0 1 -"
+    ∷ storyLine (0 ∷ 1 ∷ 0 ∷ 0 ∷ 0 ∷ 0 ∷ 0 ∷ 7 ∷ 0 ∷ 0 ∷ 0 ∷ 0 ∷ 0 ∷ 0 ∷ 0 ∷ 0 ∷ []) "42 0 1 1 0 0 1 -"
     -- 106: a trigger with soft none
-    ∷ storyLine (1 ∷ 0 ∷ 0 ∷ 0 ∷ 0 ∷ 0 ∷ 0 ∷ 7 ∷ 0 ∷ 0 ∷ 0 ∷ 0 ∷ 0 ∷ 0 ∷ 0 ∷ 0 ∷ []) "41 106 1 1 0 0 1 -"
+    ∷ storyLine (1 ∷ 0 ∷ 0 ∷ 0 ∷ 0 ∷ 0 ∷ 0 ∷ 7 ∷ 0 ∷ 0 ∷ 0 ∷ 0 ∷ 0 ∷ 0 ∷ 0 ∷ 0 ∷ []) "43 106 1 1 0 0 1 -"
     -- 6.2.4.2 case 3, hard off: no Rerouting cause
-    ∷ storyLine (7 ∷ 0 ∷ 0 ∷ 0 ∷ 0 ∷ 0 ∷ 0 ∷ 7 ∷ 0 ∷ 0 ∷ 0 ∷ 1 ∷ 0 ∷ 0 ∷ 0 ∷ 0 ∷ []) "42 0 0 0 0 0 0 release calling"
+    ∷ storyLine (7 ∷ 0 ∷ 0 ∷ 0 ∷ 0 ∷ 0 ∷ 0 ∷ 7 ∷ 0 ∷ 0 ∷ 0 ∷ 1 ∷ 0 ∷ 0 ∷ 0 ∷ 0 ∷ []) "44 0 0 0 0 0 0 release calling"
     -- hard off, symmetric soft
     -- 01, openings
-    ∷ storyLine (0 ∷ 1 ∷ 0 ∷ 2 ∷ 0 ∷ 0 ∷ 0 ∷ 7 ∷ 0 ∷ 0 ∷ 0 ∷ 0 ∷ 0 ∷ 0 ∷ 0 ∷ 0 ∷ []) "43 0 1 1 0 0 1 -"
+    ∷ storyLine (0 ∷ 1 ∷ 0 ∷ 2 ∷ 0 ∷ 0 ∷ 0 ∷ 7 ∷ 0 ∷ 0 ∷ 0 ∷ 0 ∷ 0 ∷ 0 ∷ 0 ∷ 0 ∷ []) "45 0 1 1 0 0 1 -"
     -- Setup row 4: Soft Initiated (1,2)
-    ∷ storyLine (5 ∷ 1 ∷ 0 ∷ 0 ∷ 0 ∷ 0 ∷ 0 ∷ 7 ∷ 0 ∷ 0 ∷ 0 ∷ 1 ∷ 0 ∷ 0 ∷ 0 ∷ 0 ∷ []) "44 0 6 1 2 1 2 -"
+    ∷ storyLine (5 ∷ 1 ∷ 0 ∷ 0 ∷ 0 ∷ 0 ∷ 0 ∷ 7 ∷ 0 ∷ 0 ∷ 0 ∷ 1 ∷ 0 ∷ 0 ∷ 0 ∷ 0 ∷ []) "46 0 6 1 2 1 2 -"
     -- 01, calling side in Soft Initiated: none came, and hard is off
     ∷ storyLine (6 ∷ 0 ∷ 0 ∷ 1 ∷ 0 ∷ 0 ∷ 0 ∷ 7 ∷ 0 ∷ 0 ∷ 0 ∷ 0 ∷ 0 ∷ 0 ∷ 0 ∷ 0 ∷ [])
-    "45 0 0 0 0 0 0 release incumbent 1, release rerouting 2"
+    "47 0 0 0 0 0 0 release incumbent 1, release rerouting 2"
     -- hard on, soft none
     -- 01, openings
-    ∷ storyLine (0 ∷ 1 ∷ 1 ∷ 0 ∷ 0 ∷ 0 ∷ 0 ∷ 7 ∷ 0 ∷ 0 ∷ 0 ∷ 0 ∷ 0 ∷ 0 ∷ 0 ∷ 0 ∷ []) "46 0 1 1 0 0 1 -"
-    -- 6.2.4.2 case 3: #1 unmodified
-    ∷ storyLine (7 ∷ 1 ∷ 1 ∷ 0 ∷ 0 ∷ 0 ∷ 0 ∷ 7 ∷ 0 ∷ 0 ∷ 0 ∷ 1 ∷ 0 ∷ 0 ∷ 0 ∷ 0 ∷ []) "47 0 0 0 0 0 0 release calling =1"
-    -- 01, openings
     ∷ storyLine (0 ∷ 1 ∷ 1 ∷ 0 ∷ 0 ∷ 0 ∷ 0 ∷ 7 ∷ 0 ∷ 0 ∷ 0 ∷ 0 ∷ 0 ∷ 0 ∷ 0 ∷ 0 ∷ []) "48 0 1 1 0 0 1 -"
+    -- 6.2.4.2 case 3: #1 unmodified
+    ∷ storyLine (7 ∷ 1 ∷ 1 ∷ 0 ∷ 0 ∷ 0 ∷ 0 ∷ 7 ∷ 0 ∷ 0 ∷ 0 ∷ 1 ∷ 0 ∷ 0 ∷ 0 ∷ 0 ∷ []) "49 0 0 0 0 0 0 release calling =1"
+    -- 01, openings
+    ∷ storyLine (0 ∷ 1 ∷ 1 ∷ 0 ∷ 0 ∷ 0 ∷ 0 ∷ 7 ∷ 0 ∷ 0 ∷ 0 ∷ 0 ∷ 0 ∷ 0 ∷ 0 ∷ 0 ∷ []) "50 0 1 1 0 0 1 -"
     -- 6.2.4.2 case 4
-    ∷ storyLine (7 ∷ 0 ∷ 0 ∷ 0 ∷ 0 ∷ 0 ∷ 0 ∷ 7 ∷ 0 ∷ 0 ∷ 0 ∷ 1 ∷ 0 ∷ 0 ∷ 0 ∷ 0 ∷ []) "49 0 2 0 0 0 1 timer start"
+    ∷ storyLine (7 ∷ 0 ∷ 0 ∷ 0 ∷ 0 ∷ 0 ∷ 0 ∷ 7 ∷ 0 ∷ 0 ∷ 0 ∷ 1 ∷ 0 ∷ 0 ∷ 0 ∷ 0 ∷ []) "51 0 2 0 0 0 1 timer start"
     -- 6.2.5.2 item 1
-    ∷ storyLine (9 ∷ 0 ∷ 0 ∷ 0 ∷ 0 ∷ 0 ∷ 0 ∷ 7 ∷ 0 ∷ 0 ∷ 0 ∷ 0 ∷ 0 ∷ 0 ∷ 0 ∷ 0 ∷ []) "50 0 0 0 0 0 0 release calling #2"
+    ∷ storyLine (9 ∷ 0 ∷ 0 ∷ 0 ∷ 0 ∷ 0 ∷ 0 ∷ 7 ∷ 0 ∷ 0 ∷ 0 ∷ 0 ∷ 0 ∷ 0 ∷ 0 ∷ 0 ∷ []) "52 0 0 0 0 0 0 release calling #2"
     -- 01, The trace: kind 10 is not named
     ∷ storyLine (10 ∷ 0 ∷ 0 ∷ 0 ∷ 0 ∷ 0 ∷ 0 ∷ 7 ∷ 0 ∷ 0 ∷ 0 ∷ 0 ∷ 0 ∷ 0 ∷ 0 ∷ 0 ∷ []) "bad"
     ∷ []

@@ -176,11 +176,12 @@ fn retries_at_the_last_number(octets: &[u8]) -> BTreeSet<(u8, String)> {
     retries
 }
 
-/// The last number is spent some 150,000 records after an opening.
+/// The last number is spent some 150,000 records after an opening. In this run a setup takes it in
+/// two lives of the worn call, so that the next one is soon refused in Soft Initiated.
 #[test]
 fn rows_at_the_last_number_are_reached() {
     let spent = |last| last == 65_535;
-    let octets = made(1, 1_000_000, false);
+    let octets = made(3, 1_000_000, false);
     let (reached, answers) = reached(&octets, spent);
     let refused: Vec<Row> = rows(spent).into_iter().filter(|row| row.2 == 108).collect();
     let missing: Vec<&Row> = refused.iter().filter(|&row| !reached.contains(row)).collect();
