@@ -88,7 +88,7 @@ fn soft_trigger_is_done() {
     run(None, &steps);
 }
 
-/// Who wants soft none has to name it (02, Ask 1): what is named is taken, and the trigger is 106.
+/// Soft none has to be named (02, Ask 1): what is named is taken, and the trigger is 106.
 #[test]
 fn soft_none_that_is_named_refuses_a_trigger() {
     let hard_alone = Services { hard: true, soft: Soft::None };

@@ -6,7 +6,7 @@ use mathlib.Core.List.{[], _∷_}
 use mathlib.Core.Path.{_≡_, ap, refl}
 use lib.ListN.{length}
 use borrow.Author.Tests.{leb-false}
-use Rattle.signal.proofs.Claims.{services-taken}
+use Rattle.signal.proofs.Claims.{services-exactly}
 use Rattle.signal.specs.Causes.{inProgress, oldNumber, unsupported}
 use Rattle.signal.specs.Numbers.{isClearing, isLate}
 use Rattle.signal.specs.declared.ReroutingCause.{ReroutingCause}
@@ -40,7 +40,7 @@ pub opens-with-one : claim.OpensWithOne
 opens-with-one key wanted o r = rw r (refl, (refl, (refl, (refl, (refl, refl)))))
 
 pub opens-with-services : claim.OpensWithServices
-opens-with-services key wanted o r = rw r (services-taken wanted)
+opens-with-services key wanted o r = rw r (services-exactly wanted)
 
 pub refusal-leaves-record : claim.RefusalLeavesRecord sourceHalf
 refusal-leaves-record = any.refusal-leaves-record sourceHalf lawful

@@ -1,8 +1,8 @@
--- The claims on one event at one call, at either end. "01" is the scope document, a demand one of the three in README.md, "decision N" a
--- point of docs/DECISIONS.md. Each stands under the requirement that it answers, cited by place and said again in our words; none mentions
--- a row or a case. They speak of every record, fit or not, and of every event, and of whatever a method returns that does what its half of
--- the control does: `Returned` is the contract of the source's `Call::handle`, and of the event's own method. Proofs, once for any half
--- that keeps the laws: proofs/Claims.antt; for the source: proofs/Source.antt. Assumes nothing.
+-- The claims on one event at one call, at either end. "01" is the scope document, "02" the follow-up requests, a demand one of the three in
+-- README.md, "decision N" a point of docs/DECISIONS.md. Each stands under the requirement that it answers, cited by place and said again in
+-- our words; none mentions a row or a case. They speak of every record, fit or not, and of every event, and of whatever a method returns
+-- that does what its half of the control does: `Returned` is the contract of the source's `Call::handle`, and of the event's own method.
+-- Proofs, once for any half that keeps the laws: proofs/Claims.antt; for the source: proofs/Source.antt. Assumes nothing.
 use Prim.Native.Nat.{_+_, _<_, _≤_, ℕ}
 use mathlib.Core.Bool.{cond, false, not, true}
 use mathlib.Core.List.{List, [], _++_, _∷_}

@@ -105,7 +105,7 @@ module _ {M : Type 1} (𝓤 : URA M) (H : Heap 𝓤) (A : Atoms 𝓤) (memory : 
   pub default-without-hard : (soft : Soft) → services-shuts-out Unnamed (record { hard = false; soft = soft })
   default-without-hard soft = fact-mono 𝓤 _ _ (λ h. let z : _≡_ {A = ℕ} 0 _ = ap (λ (s : Services). cond (s .hard) 1 0) h in omega arith)
 
-  -- and soft asymmetric: not none, as before Ask 1, and not symmetric
+  -- and soft asymmetric: not none, and not symmetric
   pub default-with-soft-none : (hard : Bool) → services-shuts-out Unnamed (record { hard = hard; soft = NoSoft })
   default-with-soft-none hard =
       fact-mono 𝓤 _ _ (λ h. let z : _≡_ {A = ℕ} 0 _ = ap (λ (s : Services). softNumber (s .soft)) h in omega arith)

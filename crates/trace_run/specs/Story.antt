@@ -1,6 +1,7 @@
 -- A run that meets every kind of record, every value of hard, soft, policy, cause present and crankback, every state, every kind of signal
 -- and every word that tells one. Of each record its octets, and the line that the watch prints of it, derived by hand from the place that
--- stands above it: of 01, a row of its "Setup", the number of a refusal, a section of the standard, or a decision. Assumes nothing.
+-- stands above it: of 01, a row of its "Setup", the number of a refusal, a request of 02, a section of the standard, or a decision. Assumes
+-- nothing.
 use Prim.Native.Nat.{ℕ}
 use Prim.Native.String.{String}
 use mathlib.Core.List.{List, [], _∷_, _++_}
