@@ -40,7 +40,7 @@ pub opens-with-one : claim.OpensWithOne
 opens-with-one key wanted o r = rw r (refl, (refl, (refl, (refl, (refl, refl)))))
 
 pub opens-with-services : claim.OpensWithServices
-opens-with-services key wanted o r = rw r (services-exactly wanted)
+opens-with-services key wanted o r = rw r (services-exactly wanted _ _ .1 (refl, refl))
 
 pub refusal-leaves-record : claim.RefusalLeavesRecord sourceHalf
 refusal-leaves-record = any.refusal-leaves-record sourceHalf lawful
