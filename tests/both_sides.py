@@ -69,8 +69,9 @@ def line_at(text, start):
     return repr(line.decode("utf-8", "replace")) if line else "(no more lines)"
 
 
-def same(name, pair, ours, theirs, records=None):
-    """Faults of two outputs that must be the same bytes: the first line that differs, as each of the pair has it, and the records up to it."""
+def same(name, pair, ours, theirs, records=None, lister="list"):
+    """Faults of two outputs that must be the same bytes: the first line that differs, as each of the pair has it, and the records up to it,
+    as that program lists them."""
     if ours == theirs:
         return []
     at = shared(ours, theirs)
@@ -78,16 +79,29 @@ def same(name, pair, ours, theirs, records=None):
     number = ours.count(b"\n", 0, at)  # line 1 is the one of columns, and record n prints line n + 1
     text = [f"{name}: line {number + 1} differs"] + [f"  {side}: {line_at(whole, start)}" for side, whole in zip(pair, (ours, theirs))]
     if records is not None:
-        before = output(oracle("list"), records[: number * RECORD])[0]
+        before = output(oracle(lister), records[: number * RECORD])[0]
         text += ["  the records up to it:"] + [f"    {line}" for line in lines_of(before)[-SHOWN:]]
     return ["\n".join(text)]
 
 
-def both(name, program, records):
-    """Faults of a proved program against the independent one on these records, and what the proved one prints."""
+def both(name, node, program, records):
+    """Faults of a node's proved program against the independent one on these records, and what the proved one prints."""
+    program = node.program(program)
     ours, complaint = output(proved(program), records)
     faults = [f"{name}: {program} complains: {complaint.decode(errors='replace').strip()}"] if complaint else []
-    return faults + same(f"{name}, {program}", ("proved", "oracle"), ours, output(oracle(program), records)[0], records), ours
+    theirs = output(oracle(program), records)[0]
+    return faults + same(f"{name}, {program}", ("proved", "oracle"), ours, theirs, records, node.program("list")), ours
+
+
+def failures_told(program, octets):
+    """Faults of a proved program of which reading or writing fails, since a folder cannot be read and a full device cannot be written: it
+    tells so in one line, and writes nothing."""
+    faults = []
+    for elsewhere, what in (("</", "reading"), (">/dev/full", "writing")):
+        done = output(["bash", "-c", f'exec "$@" {elsewhere}', "bash", *proved(program)], octets)
+        wanted = (b"", f"{program}: {what} fails\n".encode())
+        faults += [] if done == wanted else [f"{what} fails: {done}, where {wanted} has to be"]
+    return faults
 
 
 def in_parallel(function, items):

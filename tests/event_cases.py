@@ -4,11 +4,13 @@ import random
 import struct
 
 from counting import NEAR, fail
+from ends import DESTINATION, SOURCE
 
 RECORD = 20
 MULTIPLIER, CHAIN = 2654435761, 8  # of crates/distinct: what spreads the keys, and how far a chain is followed
 STEPS, SETS = 4096, 1000
-OPENING, TRIGGER, RELEASE = 0, 1, 6
+OPENING, TRIGGER = 0, 1
+RELEASE = {SOURCE: 6, DESTINATION: 7}  # from the party that this end stands by
 IDLE, AWAITING = (1, 1, 0, 1), (7, 1, 2, 2)  # the state's number, incumbent, rerouting, last number
 
 
@@ -75,21 +77,27 @@ def no_such_key(keys, records):
     return TRIGGER, keys[-1], records[:-1] + [record(keys[-1] ^ 1, IDLE)]
 
 
-# keys, what each record holds, event, answer, and what a line calls it
-RUNS = [
-    (lambda count: range(1, count + 1), IDLE, meets(-1, TRIGGER), 0, "keys 1 to n, trigger on the last record"),
-    (at_random, IDLE, meets(-1, TRIGGER), 0, "random keys, trigger on the last record"),
-    (at_random, IDLE, meets(0, TRIGGER), 0, "random keys, trigger on the first record"),
-    (at_random, IDLE, opens_last, 0, "random keys, opening into the last record"),
-    (at_random, IDLE, no_such_key, 105, "random keys, refused 105: no such key"),
-    (at_random, IDLE, last_unfit, 101, "random keys, refused 101: last record unfit"),
-    (at_random, IDLE, last_key_again, 101, "random keys, refused 101: last key is the first"),
-    (at_random, AWAITING, meets(-1, RELEASE), 0, "random keys, Awaiting, release on the last"),
-    (lambda count: range(842, 842 * count + 1, 842), IDLE, meets(-1, TRIGGER), 0, "keys in steps of 842, trigger on the last"),
-    (in_one_slot, IDLE, meets(-1, TRIGGER), 0, "keys of one slot, trigger on the last record"),
-    (in_one_slot, AWAITING, meets(-1, RELEASE), 0, "keys of one slot, Awaiting, release on the last"),
-]
-ORDINARY = RUNS[:-3]  # the others have keys that fall into few slots
+def runs(end):
+    """Of an end: keys, what each record holds, event, answer, and what a line calls it."""
+    release = meets(-1, RELEASE[end])
+    return [
+        (lambda count: range(1, count + 1), IDLE, meets(-1, TRIGGER), 0, "keys 1 to n, trigger on the last record"),
+        (at_random, IDLE, meets(-1, TRIGGER), 0, "random keys, trigger on the last record"),
+        (at_random, IDLE, meets(0, TRIGGER), 0, "random keys, trigger on the first record"),
+        (at_random, IDLE, opens_last, 0, "random keys, opening into the last record"),
+        (at_random, IDLE, no_such_key, 105, "random keys, refused 105: no such key"),
+        (at_random, IDLE, last_unfit, 101, "random keys, refused 101: last record unfit"),
+        (at_random, IDLE, last_key_again, 101, "random keys, refused 101: last key is the first"),
+        (at_random, AWAITING, release, 0, "random keys, Awaiting, release on the last"),
+        (lambda count: range(842, 842 * count + 1, 842), IDLE, meets(-1, TRIGGER), 0, "keys in steps of 842, trigger on the last"),
+        (in_one_slot, IDLE, meets(-1, TRIGGER), 0, "keys of one slot, trigger on the last record"),
+        (in_one_slot, AWAITING, release, 0, "keys of one slot, Awaiting, release on the last"),
+    ]
+
+
+def ordinary(end):
+    """Their lines, without those whose keys fall into few slots."""
+    return [run[4] for run in runs(end)[:-3]]
 
 
 def input_of(run, count):
@@ -99,12 +107,12 @@ def input_of(run, count):
     return struct.pack(">H", count) + b"".join(records) + struct.pack(">BxxxI8x", kind, key)
 
 
-def cost(machine, program, symbol, run, count, *wanted):
+def cost(machine, words, symbol, run, count, *wanted):
     """What `Machine.calls` tells of the one call of the entry, which must give the answer that is expected."""
     case, output = (os.path.join(machine.folder, name) for name in ("case", "output"))
     with open(case, "wb") as file:
         file.write(input_of(run, count))
-    calls = machine.calls(symbol, [program], case, output, *wanted)
+    calls = machine.calls(symbol, words, case, output, *wanted)
     with open(output) as file:
         shown = file.readline()
     if not shown.startswith(f"case 1 answer {run[3]} n {count} "):
@@ -114,8 +122,8 @@ def cost(machine, program, symbol, run, count, *wanted):
     return calls[0]
 
 
-def stack(machine, program, symbol):
+def stack(machine, end, words, symbol):
     """The most octets of stack that a call takes, over all runs at 64 records; the emulator alone tells it."""
-    place = cost(machine, program, symbol, RUNS[0], 64)[3]
+    place = cost(machine, words, symbol, runs(end)[0], 64)[3]
     near = ("-d", "exec,cpu,nochain", "-dfilter", f"{place - NEAR:#x}..{place + NEAR:#x}")
-    return max(cost(machine, program, symbol, run, 64, near)[2] for run in RUNS)
+    return max(cost(machine, words, symbol, run, 64, near)[2] for run in runs(end))

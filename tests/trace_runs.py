@@ -21,9 +21,9 @@ def make(words, name):
         fail(f"the independent program makes nothing: {problem}")
 
 
-def make_records(count, name):
-    """So many records of one run."""
-    make(["make-trace", "1", str(count)], name)
+def make_records(end, count, name):
+    """So many records of one run of an end."""
+    make([end.make("trace"), "1", str(count)], name)
 
 
 def by_function(machine, words, records, count):

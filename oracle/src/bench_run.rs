@@ -2,7 +2,9 @@
 //! key on record, which is the table's matter: `table_run` has it, between the same steps.
 
 use crate::call::{Call, Outcome, Services, Soft};
-use crate::vocabulary::{CalledRelease, Crankback, Event, Policy, ReroutingCause, SwitchoverCode};
+use crate::vocabulary::{
+    Crankback, DomainRelease, Event, Node, Policy, ReroutingCause, SwitchoverCode,
+};
 use crate::words::SignalWords;
 
 /// Event, answer, record after it, signals; records and signals in the words of the cells.
@@ -13,7 +15,7 @@ fn setup(switchover: SwitchoverCode, number: u32) -> Event {
 }
 
 fn called(connection: u16, cause: Option<ReroutingCause>) -> Event {
-    Event::CalledRelease(CalledRelease { connection, cause, crankback: Crankback::None })
+    Event::FromDomain(DomainRelease { connection, cause, crankback: Crankback::None })
 }
 
 fn shown(outcome: &Outcome) -> (u8, String, String) {
@@ -32,9 +34,9 @@ fn opened() -> Outcome {
 fn run(steps: &[Step]) -> Call {
     let mut call = opened().call;
     for &(event, answer, record, signals) in steps {
-        let outcome = call.after(event);
+        let outcome = call.after(Node::Source, event);
         let expected = (answer, record.to_string(), signals.to_string());
-        assert_eq!(shown(&outcome), expected, "{call} | {event}");
+        assert_eq!(shown(&outcome), expected, "{call} | {event:?}");
         call = outcome.call;
     }
     call
@@ -93,9 +95,9 @@ fn run_is_b2_to_b16() {
 fn last_numbers_are_used_up() {
     let idle = opened().call;
     let setup = setup(SwitchoverCode::CLEARING, 1);
-    let accepted = Call { last: 65_534, ..idle }.after(setup);
+    let accepted = Call { last: 65_534, ..idle }.after(Node::Source, setup);
     assert_eq!(shown(&accepted), (0, "7 1 2 6 1 65535 65535 1".to_string(), "-".to_string()));
     let spent = Call { last: 65_535, ..idle };
-    assert_eq!(spent.after(setup).answer.number(), 108);
-    assert_eq!(spent.after(setup).call, spent);
+    assert_eq!(spent.after(Node::Source, setup).answer.number(), 108);
+    assert_eq!(spent.after(Node::Source, setup).call, spent);
 }

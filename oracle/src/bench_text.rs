@@ -1,6 +1,7 @@
 //! The bench run of 01, B1 to B16, as a technician runs it: written as a script, turned into
 //! records, traced and watched.
 
+use crate::vocabulary::Node;
 use crate::{list, script, trace, watch};
 
 /// B15 is three events.
@@ -59,7 +60,7 @@ line answer state incumbent rerouting number
 /// The records of a script without a line that names no event.
 fn records(lines: &str) -> Vec<u8> {
     let mut octets = Vec::new();
-    let complaint = script::print(lines.as_bytes(), &mut octets);
+    let complaint = script::print(Node::Source, lines.as_bytes(), &mut octets);
     assert_eq!(complaint.expect("a vector takes every byte"), None);
     octets
 }
@@ -70,13 +71,13 @@ fn text(octets: Vec<u8>) -> String {
 
 fn traced(octets: &[u8]) -> String {
     let mut out = Vec::new();
-    trace::print(octets, &mut out).expect("a vector takes every byte");
+    trace::print(Node::Source, octets, &mut out).expect("a vector takes every byte");
     text(out)
 }
 
 fn watched(octets: &[u8]) -> String {
     let mut out = Vec::new();
-    watch::print(octets, &mut out).expect("a vector takes every byte");
+    watch::print(Node::Source, octets, &mut out).expect("a vector takes every byte");
     text(out)
 }
 
@@ -106,7 +107,7 @@ fn b1_to_b16_watched() {
 fn b1_to_b16_list_to_the_same_records() {
     let octets = records(SCRIPT);
     let mut lines = Vec::new();
-    let complaint = list::print(octets.as_slice(), &mut lines);
+    let complaint = list::print(Node::Source, octets.as_slice(), &mut lines);
     assert_eq!(complaint.expect("a vector takes every byte"), None);
     let lines = text(lines);
     assert!(lines.starts_with("open 7 hard symmetric  # 1\nsetup 7 clearing 3  # 2\n"));

@@ -1,10 +1,11 @@
 //! One call: its record, the states with the connections that they hold, and what an event hands
 //! back.
 //!
-//! The rows themselves stand in `rerouting_rows` and `release_rows`. Only the functions below make
-//! a changed record.
+//! One record serves both ends of a call. The rows of each end stand in a module of its own,
+//! `source` and `destination`; only the functions below make a changed record.
 
-use crate::vocabulary::{one, Answer, Event, Signal, Signals, SILENT};
+use crate::vocabulary::{one, Answer, Event, Node, ReroutingCause, Signal, Signals, SILENT};
+use crate::{destination, source};
 
 /// The soft rerouting service of a call, numbered as decision 22 says.
 #[derive(Clone, Copy, Debug, PartialEq, Eq)]
@@ -47,17 +48,35 @@ impl Services {
     pub const UNNAMED: Self = Self { hard: true, soft: Soft::Asymmetric };
 }
 
-/// The states of 6.2.3, each with the connection numbers that 01 lets it hold.
+/// The states of 6.2.3 and of 6.3.3, each with the connection numbers that 01 lets it hold. A
+/// number holds the same at both ends (decision 57), and only the two Hard states differ in name.
 #[derive(Clone, Copy, Debug, PartialEq, Eq)]
 pub enum State {
     Null,
-    ReroutingIdle { incumbent: u16 },
-    HardRerouteTriggered,
-    HardRerouteProceeding { rerouting: u16 },
-    SoftRerouteTriggered { incumbent: u16 },
-    SoftRerouteProceeding { incumbent: u16, rerouting: u16 },
-    SoftRerouteInitiated { incumbent: u16, rerouting: u16 },
-    AwaitingSwitchover { incumbent: u16, rerouting: u16 },
+    ReroutingIdle {
+        incumbent: u16,
+    },
+    /// Hard Reroute Triggered at the source, Hard Reroute Indicated at the destination.
+    HardWaiting,
+    /// Hard Reroute Proceeding at the source, Hard Reroute Initiated at the destination.
+    HardUnderway {
+        rerouting: u16,
+    },
+    SoftRerouteTriggered {
+        incumbent: u16,
+    },
+    SoftRerouteProceeding {
+        incumbent: u16,
+        rerouting: u16,
+    },
+    SoftRerouteInitiated {
+        incumbent: u16,
+        rerouting: u16,
+    },
+    AwaitingSwitchover {
+        incumbent: u16,
+        rerouting: u16,
+    },
 }
 
 impl State {
@@ -65,8 +84,8 @@ impl State {
         match self {
             State::Null => 0,
             State::ReroutingIdle { .. } => 1,
-            State::HardRerouteTriggered => 2,
-            State::HardRerouteProceeding { .. } => 3,
+            State::HardWaiting => 2,
+            State::HardUnderway { .. } => 3,
             State::SoftRerouteTriggered { .. } => 4,
             State::SoftRerouteProceeding { .. } => 5,
             State::SoftRerouteInitiated { .. } => 6,
@@ -80,8 +99,8 @@ impl State {
         match number {
             0 => Some(State::Null),
             1 => Some(State::ReroutingIdle { incumbent }),
-            2 => Some(State::HardRerouteTriggered),
-            3 => Some(State::HardRerouteProceeding { rerouting }),
+            2 => Some(State::HardWaiting),
+            3 => Some(State::HardUnderway { rerouting }),
             4 => Some(State::SoftRerouteTriggered { incumbent }),
             5 => Some(State::SoftRerouteProceeding { incumbent, rerouting }),
             6 => Some(State::SoftRerouteInitiated { incumbent, rerouting }),
@@ -95,8 +114,8 @@ impl State {
         match self {
             State::Null => (0, 0, 0),
             State::ReroutingIdle { incumbent } => (1, incumbent, 0),
-            State::HardRerouteTriggered => (2, 0, 0),
-            State::HardRerouteProceeding { rerouting } => (3, 0, rerouting),
+            State::HardWaiting => (2, 0, 0),
+            State::HardUnderway { rerouting } => (3, 0, rerouting),
             State::SoftRerouteTriggered { incumbent } => (4, incumbent, 0),
             State::SoftRerouteProceeding { incumbent, rerouting } => (5, incumbent, rerouting),
             State::SoftRerouteInitiated { incumbent, rerouting } => (6, incumbent, rerouting),
@@ -108,8 +127,8 @@ impl State {
         match self {
             State::Null => None,
             State::ReroutingIdle { incumbent } => Some(incumbent),
-            State::HardRerouteTriggered => None,
-            State::HardRerouteProceeding { .. } => None,
+            State::HardWaiting => None,
+            State::HardUnderway { .. } => None,
             State::SoftRerouteTriggered { incumbent } => Some(incumbent),
             State::SoftRerouteProceeding { incumbent, .. } => Some(incumbent),
             State::SoftRerouteInitiated { incumbent, .. } => Some(incumbent),
@@ -121,8 +140,8 @@ impl State {
         match self {
             State::Null => None,
             State::ReroutingIdle { .. } => None,
-            State::HardRerouteTriggered => None,
-            State::HardRerouteProceeding { rerouting } => Some(rerouting),
+            State::HardWaiting => None,
+            State::HardUnderway { rerouting } => Some(rerouting),
             State::SoftRerouteTriggered { .. } => None,
             State::SoftRerouteProceeding { rerouting, .. } => Some(rerouting),
             State::SoftRerouteInitiated { rerouting, .. } => Some(rerouting),
@@ -172,18 +191,11 @@ impl Call {
         call.kept(SILENT)
     }
 
-    /// The record after an event, with its answer and its signals.
-    pub fn after(self, event: Event) -> Outcome {
-        match event {
-            Event::Trigger => self.trigger(),
-            Event::PathFound => self.path_found(),
-            Event::NoPath => self.no_path(),
-            Event::Connect { connection, policy } => self.connect(connection, policy),
-            Event::Setup { switchover, number } => self.setup(switchover, number),
-            Event::CallingRelease { cause } => self.calling_release(cause),
-            Event::CalledRelease(release) => self.called_release(release),
-            Event::Ready => self.ready(),
-            Event::TimerExpiry => self.timer_expiry(),
+    /// The record after an event at that end, with its answer and its signals.
+    pub fn after(self, node: Node, event: Event) -> Outcome {
+        match node {
+            Node::Source => source::after(self, event),
+            Node::Destination => destination::after(self, event),
         }
     }
 
@@ -213,13 +225,23 @@ impl Call {
     }
 
     /// A setup accepted on a new connection, its number stored, or 108 at 65,535.
-    pub fn setup_accepted(self, incumbent: u16, remote: u32, signals: Signals) -> Outcome {
+    pub fn setup_accepted(
+        self,
+        remote: u32,
+        initiated: impl FnOnce(u16) -> State,
+        signals: Signals,
+    ) -> Outcome {
         match self.next_number() {
             Some(rerouting) => {
-                let state = State::SoftRerouteInitiated { incumbent, rerouting };
+                let state = initiated(rerouting);
                 Self { last: rerouting, remote, state, ..self }.kept(signals)
             }
             None => self.refused(Answer::NumbersSpent),
         }
+    }
+
+    /// A rejected setup leaves the record as it was, with answer 0 (01, "Setup").
+    pub fn rejected(self, cause: ReroutingCause) -> Outcome {
+        self.kept(one(Signal::reject(cause)))
     }
 }

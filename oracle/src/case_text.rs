@@ -1,6 +1,7 @@
 //! Cases read and printed, byte by byte in the form of docs/TABLES.md.
 
 use crate::tables;
+use crate::vocabulary::Node;
 
 /// Key 7, hard on, symmetric soft, Soft Reroute Proceeding on 3 and 4, last number 4, remote 5.
 const PROCEEDING: [u8; 20] = [0, 0, 0, 7, 1, 2, 5, 0, 0, 3, 0, 4, 0, 4, 0, 0, 0, 5, 0, 0];
@@ -24,7 +25,7 @@ fn case(records: &[[u8; 20]], event: [u8; 16]) -> Vec<u8> {
 
 fn printed(input: &[u8]) -> String {
     let mut out = Vec::new();
-    tables::print(input, &mut out).expect("a vector takes every byte");
+    tables::print(Node::Source, input, &mut out).expect("a vector takes every byte");
     String::from_utf8(out).expect("cases are printed in ASCII")
 }
 

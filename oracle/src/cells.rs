@@ -1,12 +1,15 @@
-//! The cells: for every letter read, the records of a state each with every event, or the openings.
+//! The cells of an end: for every letter read, the records of a state each with every event, or the
+//! openings.
 //!
 //! The order of records and events is fixed, so that two programs can be compared byte by byte.
 
 use std::io::{BufRead, Result, Write};
 
 use crate::call::{Call, Services, Soft, State};
-use crate::vocabulary::{CalledRelease, Crankback, Event, Policy, ReroutingCause, SwitchoverCode};
-use crate::words::SignalWords;
+use crate::vocabulary::{
+    Crankback, DomainRelease, Event, Node, Policy, ReroutingCause, Side, SwitchoverCode,
+};
+use crate::words::{EventWords, SignalWords};
 
 const SOFT_SERVICES: [Soft; 3] = [Soft::None, Soft::Asymmetric, Soft::Symmetric];
 const LAST_NUMBERS: [u16; 3] = [10, 65_534, 65_535];
@@ -28,10 +31,10 @@ const CRANKBACKS: [Crankback; 3] =
     [Crankback::None, Crankback::AlternateFound, Crankback::NoneFound];
 
 /// Prints what each letter names; a letter that names nothing is skipped.
-pub fn print(letters: impl BufRead, out: &mut impl Write) -> Result<()> {
+pub fn print(node: Node, letters: impl BufRead, out: &mut impl Write) -> Result<()> {
     for letter in letters.bytes() {
         match letter? {
-            digit @ b'0'..=b'7' => print_state(digit - b'0', out)?,
+            digit @ b'0'..=b'7' => print_state(node, digit - b'0', out)?,
             b'o' => print_openings(out)?,
             _ => {}
         }
@@ -39,13 +42,13 @@ pub fn print(letters: impl BufRead, out: &mut impl Write) -> Result<()> {
     out.flush()
 }
 
-fn print_state(number: u8, out: &mut impl Write) -> Result<()> {
-    let events = events();
+fn print_state(node: Node, number: u8, out: &mut impl Write) -> Result<()> {
+    let events = events(node);
     for call in records(number) {
         for &event in &events {
-            let after = call.after(event);
+            let after = call.after(node, event);
             let answer = after.answer.number();
-            let signals = SignalWords(&after.signals);
+            let (event, signals) = (EventWords(node, event), SignalWords(&after.signals));
             writeln!(out, "{call} | {event} | {answer} | {} | {signals}", after.call)?;
         }
     }
@@ -104,13 +107,14 @@ fn held_states(number: u8) -> Vec<State> {
     apart.into_iter().chain(doubled).collect()
 }
 
-/// Every event that a record meets, in the printed order.
-pub fn events() -> Vec<Event> {
+/// Every event that a record meets, in the printed order: the releases from the calling side stand
+/// before those from the called side at either end.
+pub fn events(node: Node) -> Vec<Event> {
     let mut events = vec![Event::Trigger, Event::PathFound, Event::NoPath];
     events.extend(connects());
     events.extend(setups());
-    events.extend(CAUSES.map(|cause| Event::CallingRelease { cause }));
-    events.extend(called_releases());
+    events.extend(releases(node, Side::Calling));
+    events.extend(releases(node, Side::Called));
     events.extend([Event::Ready, Event::TimerExpiry]);
     events
 }
@@ -135,13 +139,16 @@ fn setups() -> Vec<Event> {
     setups
 }
 
-fn called_releases() -> Vec<Event> {
+fn releases(node: Node, side: Side) -> Vec<Event> {
+    if side == node.party() {
+        return CAUSES.map(|cause| Event::FromParty { cause }).to_vec();
+    }
     let mut releases = Vec::new();
     for connection in NAMED_CONNECTIONS {
         for cause in CAUSES {
             for crankback in CRANKBACKS {
-                let release = CalledRelease { connection, cause, crankback };
-                releases.push(Event::CalledRelease(release));
+                let release = DomainRelease { connection, cause, crankback };
+                releases.push(Event::FromDomain(release));
             }
         }
     }

@@ -32,6 +32,7 @@ pub fn to_send<'received, 'own>(
 fn is_release(kind: SignalKind) -> bool {
     match kind {
         SignalKind::ReleaseCalling => true,
+        SignalKind::ReleaseCalled => true,
         SignalKind::ReleaseIncumbent => true,
         SignalKind::ReleaseRerouting => true,
         SignalKind::None => false,

@@ -4,7 +4,7 @@
 use crate::element::{to_send, Part};
 use crate::vocabulary::{ReroutingCause, SentCause, Signal, SignalKind};
 
-const KINDS: [SignalKind; 10] = [
+const KINDS: [SignalKind; 11] = [
     SignalKind::None,
     SignalKind::TimerStart,
     SignalKind::TimerStop,
@@ -15,10 +15,16 @@ const KINDS: [SignalKind; 10] = [
     SignalKind::Setup,
     SignalKind::Connect,
     SignalKind::Reject,
+    SignalKind::ReleaseCalled,
 ];
 
-const RELEASES: [SignalKind; 3] =
-    [SignalKind::ReleaseCalling, SignalKind::ReleaseIncumbent, SignalKind::ReleaseRerouting];
+/// The called-side release is one like the others (decision 63).
+const RELEASES: [SignalKind; 4] = [
+    SignalKind::ReleaseCalling,
+    SignalKind::ReleaseIncumbent,
+    SignalKind::ReleaseRerouting,
+    SignalKind::ReleaseCalled,
+];
 
 /// The octets that small strings are made of: lengths that fit, that do not fit, and the greatest.
 const SMALL: [u8; 4] = [0, 1, 2, 255];

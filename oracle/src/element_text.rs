@@ -39,6 +39,9 @@ fn cases_are_printed_a_line_each() {
         case([5, 1, 4], &[0, 1, 0, 0], &[0, 1, 0, 1]),
         case([9, 2, 5], &[0, 1, 0, 0], &[0, 1, 0, 0]),
         case([4, 0, 255], &[0, 1, 0, 0], &[0, 1, 0, 0]),
+        case([10, 2, 1], &[0, 1, 0, 1, 9], &[0, 1, 0, 0]),
+        case([10, 1, 2], &[0, 1, 0, 1, 9], &[0, 1, 0, 0]),
+        case([10, 0, 2], &[0, 1, 0, 1, 9], &[0, 1, 0, 0]),
     ];
     let lines = [
         AS_RECEIVED_LINE,
@@ -46,6 +49,9 @@ fn cases_are_printed_a_line_each() {
         "received 0 \n",
         "own 0 \n",
         "own 0 \n",
+        "own 0 \n",
+        "received 5 0001000109\n",
+        "own 4 00010000\n",
         "own 0 \n",
     ];
     assert_eq!(printed(&input.concat()), lines.concat());
@@ -76,11 +82,11 @@ fn values_that_are_not_named_are_bad() {
     for value in 0..=255 {
         let kind = case([value, 1, 1], &[], &[]);
         let cause = case([4, value, 1], &[], &[]);
-        assert_eq!(printed(&kind) == "bad\n", value > 9, "kind {value}");
+        assert_eq!(printed(&kind) == "bad\n", value > 10, "kind {value}");
         assert_eq!(printed(&cause) == "bad\n", value > 2, "cause {value}");
         assert_eq!(printed(&case([4, 0, value], &[], &[])), "own 0 \n", "number {value}");
     }
-    bad_behind_first_case(&case([10, 0, 0], &[], &[]));
+    bad_behind_first_case(&case([11, 0, 0], &[], &[]));
     bad_behind_first_case(&case([0, 3, 0], &[], &[]));
 }
 

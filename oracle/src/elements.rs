@@ -48,7 +48,7 @@ fn signal(kind: u8, cause: u8, number: u8) -> Option<Signal> {
     Some(Signal { kind: signal_kind(kind)?, rerouting_cause, ..Signal::NONE })
 }
 
-/// In the order of decision 16.
+/// In the order of decision 16, and behind them the destination's own (decision 63).
 fn signal_kind(number: u8) -> Option<SignalKind> {
     match number {
         0 => Some(SignalKind::None),
@@ -61,6 +61,7 @@ fn signal_kind(number: u8) -> Option<SignalKind> {
         7 => Some(SignalKind::Setup),
         8 => Some(SignalKind::Connect),
         9 => Some(SignalKind::Reject),
+        10 => Some(SignalKind::ReleaseCalled),
         _ => None,
     }
 }

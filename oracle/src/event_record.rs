@@ -1,11 +1,16 @@
 //! An event in 16 octets, as the trace reads it (01, "The trace").
 //!
+//! The two ends differ in the releases alone: kind 6 is the calling side's and kind 7 the called
+//! side's at both, and the one that comes from across the domain names a connection (decision 76).
+//!
 //! Whether a value is named is seen from the octets alone, before the key and the state are looked
 //! at, and an octet that is not read never makes the event `bad` (decision 23).
 
 use crate::call::{Services, Soft};
 use crate::table::Request;
-use crate::vocabulary::{CalledRelease, Crankback, Event, Policy, ReroutingCause, SwitchoverCode};
+use crate::vocabulary::{
+    Crankback, DomainRelease, Event, Node, Policy, ReroutingCause, Side, SwitchoverCode,
+};
 
 pub const EVENT_OCTETS: usize = 16;
 
@@ -16,8 +21,16 @@ pub struct EventRecord {
     pub request: Request,
 }
 
-/// The event, or nothing where it is `bad`.
-pub fn decode(octets: &[u8; EVENT_OCTETS]) -> Option<EventRecord> {
+/// The kind of a release from that side.
+pub fn release_kind(side: Side) -> u8 {
+    match side {
+        Side::Calling => 6,
+        Side::Called => 7,
+    }
+}
+
+/// The event at that end, or nothing where it is `bad`.
+pub fn decode(node: Node, octets: &[u8; EVENT_OCTETS]) -> Option<EventRecord> {
     let [kind, first, second, third, k0, k1, k2, k3, n0, n1, n2, n3, ..] = *octets;
     let key = u32::from_be_bytes([k0, k1, k2, k3]);
     let number = u32::from_be_bytes([n0, n1, n2, n3]);
@@ -28,8 +41,8 @@ pub fn decode(octets: &[u8; EVENT_OCTETS]) -> Option<EventRecord> {
         3 => Request::Event(Event::NoPath),
         4 => Request::Event(connect(first, number)?),
         5 => Request::Event(Event::Setup { switchover: SwitchoverCode(first), number }),
-        6 => Request::Event(calling_release(first, second, third)?),
-        7 => Request::Event(called_release(first, second, third, number)?),
+        6 => Request::Event(release(node, Side::Calling, [first, second, third], number)?),
+        7 => Request::Event(release(node, Side::Called, [first, second, third], number)?),
         8 => Request::Event(Event::Ready),
         9 => Request::Event(Event::TimerExpiry),
         _ => return None,
@@ -37,14 +50,14 @@ pub fn decode(octets: &[u8; EVENT_OCTETS]) -> Option<EventRecord> {
     Some(EventRecord { key, request })
 }
 
-/// The octets of an event; those that its kind does not use are 0.
-pub fn encode(event: &EventRecord) -> [u8; EVENT_OCTETS] {
+/// The octets of an event at that end; those that its kind does not use are 0.
+pub fn encode(node: Node, event: &EventRecord) -> [u8; EVENT_OCTETS] {
     let ([kind, first, second, third], number) = match event.request {
         Request::Opening(None) => ([0; 4], 0),
         Request::Opening(Some(Services { hard, soft })) => {
             ([0, 1, u8::from(hard), soft.number()], 0)
         }
-        Request::Event(event) => event_values(event),
+        Request::Event(event) => event_values(node, event),
     };
     let [k0, k1, k2, k3] = event.key.to_be_bytes();
     let [n0, n1, n2, n3] = number.to_be_bytes();
@@ -52,7 +65,7 @@ pub fn encode(event: &EventRecord) -> [u8; EVENT_OCTETS] {
 }
 
 /// The octets 0 to 3, and the number of the octets 8 to 11.
-fn event_values(event: Event) -> ([u8; 4], u32) {
+fn event_values(node: Node, event: Event) -> ([u8; 4], u32) {
     match event {
         Event::Trigger => ([1, 0, 0, 0], 0),
         Event::PathFound => ([2, 0, 0, 0], 0),
@@ -61,16 +74,16 @@ fn event_values(event: Event) -> ([u8; 4], u32) {
             ([4, u8::from(policy == Policy::Yes), 0, 0], u32::from(connection))
         }
         Event::Setup { switchover: SwitchoverCode(code), number } => ([5, code, 0, 0], number),
-        Event::CallingRelease { cause } => (release_octets(6, cause, Crankback::None), 0),
-        Event::CalledRelease(CalledRelease { connection, cause, crankback }) => {
-            (release_octets(7, cause, crankback), u32::from(connection))
+        Event::FromParty { cause } => (release_octets(node.party(), cause, Crankback::None), 0),
+        Event::FromDomain(DomainRelease { connection, cause, crankback }) => {
+            (release_octets(node.domain(), cause, crankback), u32::from(connection))
         }
         Event::Ready => ([8, 0, 0, 0], 0),
         Event::TimerExpiry => ([9, 0, 0, 0], 0),
     }
 }
 
-fn release_octets(kind: u8, cause: Option<ReroutingCause>, crankback: Crankback) -> [u8; 4] {
+fn release_octets(side: Side, cause: Option<ReroutingCause>, crankback: Crankback) -> [u8; 4] {
     let [present, number] = match cause {
         None => [0, 0],
         Some(ReroutingCause(number)) => [1, number],
@@ -80,7 +93,7 @@ fn release_octets(kind: u8, cause: Option<ReroutingCause>, crankback: Crankback)
         Crankback::AlternateFound => 1,
         Crankback::NoneFound => 2,
     };
-    [kind, present, number, crankback_number]
+    [release_kind(side), present, number, crankback_number]
 }
 
 /// "byte 1 is 0 for default services (bytes 2 and 3 then not read) or 1 for named, byte 2 hard 0 or
@@ -101,18 +114,17 @@ fn connect(policy: u8, number: u32) -> Option<Event> {
     Some(Event::Connect { connection: connection(number)?, policy })
 }
 
-/// Crankback is named of every release, so it is tested here too and then left (decision 23).
-fn calling_release(present: u8, cause: u8, crankback_number: u8) -> Option<Event> {
-    crankback(crankback_number)?;
-    Some(Event::CallingRelease { cause: rerouting_cause(present, cause)? })
-}
-
-fn called_release(present: u8, cause: u8, crankback_number: u8, number: u32) -> Option<Event> {
-    Some(Event::CalledRelease(CalledRelease {
-        connection: connection(number)?,
-        cause: rerouting_cause(present, cause)?,
-        crankback: crankback(crankback_number)?,
-    }))
+/// Crankback is named of every release, so it is tested of the party's too and then left (decisions
+/// 23 and 76). That one names no connection.
+fn release(node: Node, side: Side, values: [u8; 3], number: u32) -> Option<Event> {
+    let [present, cause, crankback_number] = values;
+    let cause = rerouting_cause(present, cause)?;
+    let crankback = crankback(crankback_number)?;
+    if side == node.party() {
+        return Some(Event::FromParty { cause });
+    }
+    let connection = connection(number)?;
+    Some(Event::FromDomain(DomainRelease { connection, cause, crankback }))
 }
 
 /// "byte 1 cause present 0 or 1, byte 2 cause"; without a cause byte 2 is not read (decision 23).

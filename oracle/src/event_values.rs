@@ -1,10 +1,13 @@
-//! Events in octets: the bench run, what is not read, and every value that is `bad`.
+//! Events in octets: the bench run, what is not read, and every value that is `bad`; and in what
+//! the records of the destination differ.
 
 use crate::bench_run::{hard_part, soft_part, symmetric_part, SERVICES};
 use crate::call::{Services, Soft};
 use crate::event_record::{decode, EventRecord};
 use crate::table::Request;
-use crate::vocabulary::{CalledRelease, Crankback, Event, Policy, ReroutingCause, SwitchoverCode};
+use crate::vocabulary::{
+    Crankback, DomainRelease, Event, Node, Policy, ReroutingCause, SwitchoverCode,
+};
 
 type Octets = [u8; 16];
 
@@ -16,7 +19,7 @@ fn octets(head: [u8; 4], number: u32) -> Octets {
 }
 
 fn decoded(head: [u8; 4], number: u32) -> Option<Request> {
-    decode(&octets(head, number)).map(|event| event.request)
+    decode(Node::Source, &octets(head, number)).map(|event| event.request)
 }
 
 /// Octets that stand for that event whatever the octets named hold.
@@ -26,7 +29,7 @@ fn unread(head: [u8; 4], number: u32, places: &[usize], expected: Request) {
             let mut octets = octets(head, number);
             octets[place] = value;
             let event = EventRecord { key: 7, request: expected };
-            assert_eq!(decode(&octets), Some(event), "{octets:?}");
+            assert_eq!(decode(Node::Source, &octets), Some(event), "{octets:?}");
         }
     }
 }
@@ -36,13 +39,13 @@ fn bad_from(lowest: u8, place: usize, head: [u8; 4]) {
     for value in 0..=255 {
         let mut octets = octets(head, 1);
         octets[place] = value;
-        assert_eq!(decode(&octets).is_none(), value >= lowest, "{octets:?}");
+        assert_eq!(decode(Node::Source, &octets).is_none(), value >= lowest, "{octets:?}");
     }
 }
 
 fn called(connection: u16, cause: Option<u8>, crankback: Crankback) -> Request {
     let cause = cause.map(ReroutingCause);
-    Request::Event(Event::CalledRelease(CalledRelease { connection, cause, crankback }))
+    Request::Event(Event::FromDomain(DomainRelease { connection, cause, crankback }))
 }
 
 /// B1 to B16 in octets, B15 being three events.
@@ -83,7 +86,7 @@ fn key_and_numbers_are_big_endian() {
     let octets = [5, 255, 9, 9, 1, 2, 3, 4, 5, 6, 7, 8, 9, 9, 9, 9];
     let switchover = SwitchoverCode(255);
     let request = Request::Event(Event::Setup { switchover, number: 0x0506_0708 });
-    assert_eq!(decode(&octets), Some(EventRecord { key: 0x0102_0304, request }));
+    assert_eq!(decode(Node::Source, &octets), Some(EventRecord { key: 0x0102_0304, request }));
     assert_eq!(decoded([7, 0, 0, 0], 0x0102), Some(called(258, None, Crankback::None)));
 }
 
@@ -141,7 +144,7 @@ fn setup_is_never_bad() {
 
 #[test]
 fn calling_release_values() {
-    let calling = |cause| Request::Event(Event::CallingRelease { cause });
+    let calling = |cause| Request::Event(Event::FromParty { cause });
     let passed = ReroutingCause(255);
     assert_eq!(decoded([6, 1, 0, 2], 0), Some(calling(Some(ReroutingCause(0)))));
     assert_eq!(decoded([6, 1, 255, 1], 0), Some(calling(Some(passed))));
@@ -178,4 +181,42 @@ fn events_without_values_are_never_bad() {
 #[test]
 fn event_numbers_above_9_are_bad() {
     bad_from(10, 0, [0, 0, 0, 0]);
+}
+
+/// The kinds 6 and 7 change places, and no other record means anything else (decision 76).
+#[test]
+fn records_of_the_destination_differ_in_the_releases_alone() {
+    for kind in (0..=11).chain([255]) {
+        for first in 0..=3 {
+            for third in 0..=4 {
+                for number in [0, 3, 65_535, 65_536, u32::MAX] {
+                    let [n0, n1, n2, n3] = number.to_be_bytes();
+                    let octets = [kind, first, 1, third, 0, 0, 0, 7, n0, n1, n2, n3, 9, 9, 9, 9];
+                    let mut turned = octets;
+                    turned[0] = match kind {
+                        6 => 7,
+                        7 => 6,
+                        other => other,
+                    };
+                    let source = decode(Node::Source, &turned);
+                    assert_eq!(decode(Node::Destination, &octets), source, "{octets:?}");
+                }
+            }
+        }
+    }
+}
+
+#[test]
+fn releases_of_the_destination() {
+    let at_destination = |head, number| decode(Node::Destination, &octets(head, number));
+    let asked = |request| Some(EventRecord { key: 7, request });
+    let party = |cause| Request::Event(Event::FromParty { cause });
+    let calling = asked(called(258, Some(4), Crankback::NoneFound));
+    assert_eq!(at_destination([6, 1, 4, 2], 258), calling);
+    assert_eq!(at_destination([6, 0, 4, 0], 3), asked(called(3, None, Crankback::None)));
+    assert_eq!(at_destination([6, 0, 0, 3], 3), None);
+    assert_eq!(at_destination([6, 0, 0, 0], 65_536), None);
+    assert_eq!(at_destination([7, 1, 4, 2], u32::MAX), asked(party(Some(ReroutingCause(4)))));
+    assert_eq!(at_destination([7, 0, 4, 1], 65_536), asked(party(None)));
+    assert_eq!(at_destination([7, 0, 0, 3], 0), None);
 }

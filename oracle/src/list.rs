@@ -1,4 +1,4 @@
-//! Event records back into the lines of `script`, in the form of docs/BENCH.md.
+//! Event records of an end back into the lines of `script`, in the form of docs/BENCH.md.
 
 use std::fmt::{Display, Formatter};
 use std::io::{Read, Result, Write};
@@ -7,18 +7,22 @@ use crate::event_fault::{fault, Fault};
 use crate::event_record::{decode, EventRecord, EVENT_OCTETS};
 use crate::record_input::{for_each, End};
 use crate::table::Request;
+use crate::vocabulary::Node;
+use crate::words::{EventWords, ProgramName};
+
+const LIST: &str = "list";
 
 /// Prints the line of each record. Where a record is bad the run ends, and the complaint is handed
 /// back.
-pub fn print(mut input: impl Read, out: &mut impl Write) -> Result<Option<String>> {
+pub fn print(node: Node, mut input: impl Read, out: &mut impl Write) -> Result<Option<String>> {
     let mut number: u64 = 0;
     let mut complaint = None;
     let end = for_each(&mut input, out, |octets, out| {
         number += 1;
-        match decode(octets) {
-            Some(event) => writeln!(out, "{event}  # {number}")?,
+        match decode(node, octets) {
+            Some(event) => writeln!(out, "{}  # {number}", RecordWords(node, event))?,
             None => {
-                complaint = fault(octets).map(|fault| complaint_of(number, &fault));
+                complaint = fault(node, octets).map(|fault| complaint_of(node, number, &fault));
                 return Ok(false);
             }
         }
@@ -28,26 +32,30 @@ pub fn print(mut input: impl Read, out: &mut impl Write) -> Result<Option<String
     Ok(match end {
         End::Whole | End::Refused => complaint,
         End::CutShort(count) => Some(format!(
-            "list: record {}: byte {count} is missing, expected {EVENT_OCTETS} bytes",
+            "{}: record {}: byte {count} is missing, expected {EVENT_OCTETS} bytes",
+            ProgramName(node, LIST),
             number + 1
         )),
     })
 }
 
-fn complaint_of(number: u64, fault: &Fault) -> String {
+fn complaint_of(node: Node, number: u64, fault: &Fault) -> String {
     let Fault { octet, value, expected } = fault;
-    format!("list: record {number}: byte {octet} is {value}, expected {expected}")
+    let list = ProgramName(node, LIST);
+    format!("{list}: record {number}: byte {octet} is {value}, expected {expected}")
 }
 
 /// The line that `script` reads: the words of `words`, with the key behind the first.
-impl Display for EventRecord {
+pub struct RecordWords(pub Node, pub EventRecord);
+
+impl Display for RecordWords {
     fn fmt(&self, out: &mut Formatter<'_>) -> std::fmt::Result {
-        let key = self.key;
-        match self.request {
+        let Self(node, EventRecord { key, request }) = *self;
+        match request {
             Request::Opening(None) => write!(out, "open {key}"),
             Request::Opening(Some(services)) => write!(out, "open {key} {services}"),
             Request::Event(event) => {
-                let words = event.to_string();
+                let words = EventWords(node, event).to_string();
                 match words.split_once(' ') {
                     Some((name, values)) => write!(out, "{name} {key} {values}"),
                     None => write!(out, "{words} {key}"),

@@ -1,16 +1,18 @@
-//! An independent reference of the source node's rerouting control.
+//! An independent reference of the rerouting control of both ends of a call, the source node and
+//! the destination node.
 //!
 //! | Module | What it holds |
 //! |---|---|
-//! | `vocabulary` | causes, signals, answers, events |
+//! | `vocabulary` | the two ends, causes, signals, answers, events |
 //! | `call` | the record of a call, its states, what an event hands back |
-//! | `rerouting_rows` | the rows of trigger, path, connect, setup, ready and expiry |
-//! | `release_rows` | the rows of the two releases |
+//! | `source` | the rows of the source node |
+//! | `destination` | the rows of the destination node |
 //! | `words` | records, events and signals in words |
 //! | `cells` | every cell of one call, printed |
 //! | `table` | the table of records: fitness, openings, the event on a record |
 //! | `event_record`, `event_fault` | an event in the 16 octets of the trace, and why one is bad |
 //! | `record_input`, `trace_table` | these events read one by one, and their table of 64 |
+//! | `noted_input` | an input that keeps in mind whether reading it failed |
 //! | `number_line` | a line of decimal numbers |
 //! | `trace`, `watch` | the lines of the trace, and the same with signals |
 //! | `script`, `list` | readable lines into event records, and back |
@@ -27,13 +29,15 @@
 //! | `make_elements` | cases of the cause element, made |
 //!
 //! A call is treated by value: an event takes the old record and hands back the new one. The table
-//! finds the record and puts it back.
+//! finds the record and puts it back. But for the rows, everything stands once for both ends and
+//! takes the end where they differ: in the words, the octets and the makers.
 
 #![forbid(unsafe_code)]
 
 mod call;
 mod cases;
 mod cells;
+mod destination;
 mod draw;
 mod element;
 mod elements;
@@ -46,12 +50,12 @@ mod make_elements;
 mod make_tables;
 mod make_trace;
 mod maker;
+mod noted_input;
 mod number_line;
 mod record_input;
-mod release_rows;
-mod rerouting_rows;
 mod rows;
 mod script;
+mod source;
 mod table;
 mod tables;
 mod trace;
@@ -61,11 +65,17 @@ mod watch;
 mod words;
 
 #[cfg(test)]
+mod appendix;
+#[cfg(test)]
 mod bench_run;
 #[cfg(test)]
 mod bench_text;
 #[cfg(test)]
 mod case_text;
+#[cfg(test)]
+mod destination_refusals;
+#[cfg(test)]
+mod destination_run;
 #[cfg(test)]
 mod element_promises;
 #[cfg(test)]
@@ -93,14 +103,20 @@ use std::path::Path;
 use std::process::ExitCode;
 
 use crate::maker::Maker;
+use crate::noted_input::NotedInput;
 use crate::rows::{Made, Runs};
+use crate::vocabulary::Node;
+use crate::words::ProgramName;
 
 const USAGE: &str =
     "usage: oracle cells < letters, oracle tables < cases, oracle elements < cases, \
     oracle trace < records, oracle watch < records, oracle script < lines, oracle list < records, \
     oracle rows LIST [all] < records, oracle rows LIST [all] SEED:COUNT .., \
     oracle make-trace SEED COUNT [bad], oracle make-damaged SEED COUNT FOLDER, \
-    oracle make-tables SEED COUNT [bad], oracle make-elements SEED COUNT [bad]";
+    oracle make-tables SEED COUNT [bad], oracle make-elements SEED COUNT [bad]; \
+    all but elements and make-elements also for the destination node: oracle destination_cells, \
+    and so on to oracle destination_rows, oracle make-destination-trace, \
+    oracle make-destination-damaged, oracle make-destination-tables";
 const USAGE_STATUS: u8 = 2;
 
 /// How much is written at once.
@@ -111,26 +127,57 @@ fn main() -> ExitCode {
     // An argument that is no text names nothing.
     let words: Vec<&str> = arguments.iter().map(|word| word.to_str().unwrap_or("")).collect();
     let mut out = BufWriter::with_capacity(OUTPUT_OCTETS, io::stdout().lock());
-    match words.as_slice() {
-        ["cells"] => status(cells::print(io::stdin().lock(), &mut out)),
-        ["tables"] => status(tables::print(io::stdin().lock(), &mut out)),
-        ["elements"] => status(elements::print(io::stdin().lock(), &mut out)),
-        ["trace"] => status(trace::print(io::stdin().lock(), &mut out)),
-        ["watch"] => status(watch::print(io::stdin().lock(), &mut out)),
-        ["script"] => told(script::print(io::stdin().lock(), &mut out)),
-        ["list"] => told(list::print(io::stdin().lock(), &mut out)),
-        ["rows", file, "all", runs @ ..] => rows_met(file, true, runs, &mut out),
-        ["rows", file, runs @ ..] => rows_met(file, false, runs, &mut out),
-        ["make-trace", asked @ ..] => made(make_trace::write, asked, &mut out),
-        ["make-damaged", seed, count, folder] => damaged(seed, count, folder),
-        ["make-tables", asked @ ..] => made(of_maker(make_tables::MAKER), asked, &mut out),
-        ["make-elements", asked @ ..] => made(of_maker(make_elements::MAKER), asked, &mut out),
+    let Some((&first, asked)) = words.split_first() else {
+        return usage();
+    };
+    let (node, program) = node_and_program(first);
+    match (program.as_str(), asked) {
+        ("cells", []) => status(cells::print(node, io::stdin().lock(), &mut out)),
+        ("tables", []) => status(tables::print(node, io::stdin().lock(), &mut out)),
+        ("trace", []) => status(trace::print(node, io::stdin().lock(), &mut out)),
+        ("watch", []) => status(watch::print(node, io::stdin().lock(), &mut out)),
+        ("script", []) => {
+            let mut input = NotedInput::new(io::stdin().lock());
+            let printed = script::print(node, &mut input, &mut out);
+            told(failure_told(ProgramName(node, "script"), input.has_failed(), printed))
+        }
+        ("list", []) => {
+            let mut input = NotedInput::new(io::stdin().lock());
+            let printed = list::print(node, &mut input, &mut out);
+            told(failure_told(ProgramName(node, "list"), input.has_failed(), printed))
+        }
+        ("rows", [file, "all", runs @ ..]) => rows_met(node, file, true, runs, &mut out),
+        ("rows", [file, runs @ ..]) => rows_met(node, file, false, runs, &mut out),
+        ("make-trace", asked) => made(of_trace(node), asked, &mut out),
+        ("make-damaged", [seed, count, folder]) => damaged(node, seed, count, folder),
+        ("make-tables", asked) => made(of_maker(make_tables::maker(node)), asked, &mut out),
+        // The cause element knows no end.
+        ("elements", []) if first == program => {
+            status(elements::print(io::stdin().lock(), &mut out))
+        }
+        ("make-elements", asked) if first == program => {
+            made(of_maker(make_elements::MAKER), asked, &mut out)
+        }
         _ => usage(),
     }
 }
 
+/// The end that a command names, and the command without that: `destination_cells` is `cells` of
+/// the destination, `make-destination-trace` its `make-trace`.
+fn node_and_program(command: &str) -> (Node, String) {
+    if let Some(program) = command.strip_prefix("destination_") {
+        if !program.starts_with("make-") {
+            return (Node::Destination, program.to_string());
+        }
+    }
+    match command.strip_prefix("make-destination-") {
+        Some(made) => (Node::Destination, format!("make-{made}")),
+        None => (Node::Source, command.to_string()),
+    }
+}
+
 /// The rows that a run met which is read, or the runs that the words ask for.
-fn rows_met(file: &str, all: bool, words: &[&str], out: &mut impl Write) -> ExitCode {
+fn rows_met(node: Node, file: &str, all: bool, words: &[&str], out: &mut impl Write) -> ExitCode {
     let Some(made) = words.iter().map(|word| Made::of_word(word)).collect::<Option<Vec<Made>>>()
     else {
         return usage();
@@ -143,7 +190,11 @@ fn rows_met(file: &str, all: bool, words: &[&str], out: &mut impl Write) -> Exit
         [] => Runs::Read(io::stdin().lock()),
         made => Runs::Made(made),
     };
-    told(rows::print(&list, all, runs, out))
+    told(rows::print(node, &list, all, runs, out))
+}
+
+fn of_trace<Output: Write>(node: Node) -> impl Fn(u64, u64, bool, &mut Output) -> io::Result<()> {
+    move |seed, count, last_is_bad, out| make_trace::write(node, seed, count, last_is_bad, out)
 }
 
 fn of_maker<Output: Write>(maker: Maker) -> impl Fn(u64, u64, bool, &mut Output) -> io::Result<()> {
@@ -167,9 +218,9 @@ fn made<Output: Write>(
     }
 }
 
-fn damaged(seed: &str, count: &str, folder: &str) -> ExitCode {
+fn damaged(node: Node, seed: &str, count: &str, folder: &str) -> ExitCode {
     match (seed.parse(), count.parse()) {
-        (Ok(seed), Ok(count)) => status(make_damaged::write(seed, count, Path::new(folder))),
+        (Ok(seed), Ok(count)) => status(make_damaged::write(node, seed, count, Path::new(folder))),
         _ => usage(),
     }
 }
@@ -200,6 +251,23 @@ fn told(printed: io::Result<Option<String>>) -> ExitCode {
         }
         Ok(None) => ExitCode::SUCCESS,
         Err(failure) => status(Err(failure)),
+    }
+}
+
+/// Where a read or a write fails, a program of the destination says so under its own name
+/// (docs/BENCH.md); one of the source says what the system says.
+fn failure_told(
+    program: ProgramName,
+    reading_failed: bool,
+    printed: io::Result<Option<String>>,
+) -> io::Result<Option<String>> {
+    match (program, printed) {
+        (ProgramName(Node::Source, _), printed) => printed,
+        (_, Err(failure)) if failure.kind() != ErrorKind::BrokenPipe => {
+            let what = if reading_failed { "reading" } else { "writing" };
+            Ok(Some(format!("{program}: {what} fails")))
+        }
+        (_, printed) => printed,
     }
 }
 

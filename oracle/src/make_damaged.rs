@@ -1,4 +1,4 @@
-//! Damaged inputs for a comparison of traces: short runs, each spoiled in one way.
+//! Damaged inputs for a comparison of an end's traces: short runs, each spoiled in one way.
 
 #[cfg(test)]
 mod tests;
@@ -10,11 +10,12 @@ use std::path::Path;
 use crate::draw::Draw;
 use crate::event_record::{decode, EVENT_OCTETS};
 use crate::make_trace::{self, FEW_KEYS};
+use crate::vocabulary::Node;
 
 /// The most records of a run before it is spoiled.
 const MOST_RECORDS: usize = 40;
 
-type Damage = fn(&mut Draw, Vec<[u8; EVENT_OCTETS]>) -> Vec<u8>;
+type Damage = fn(Node, &mut Draw, Vec<[u8; EVENT_OCTETS]>) -> Vec<u8>;
 
 /// File after file takes the next, counted round.
 const DAMAGES: [Damage; 9] = [
@@ -30,40 +31,41 @@ const DAMAGES: [Damage; 9] = [
 ];
 
 /// Writes so many files, 0001 and on, the same for the same seed.
-pub fn write(seed: u64, count: u64, folder: &Path) -> Result<()> {
+pub fn write(node: Node, seed: u64, count: u64, folder: &Path) -> Result<()> {
     fs::create_dir_all(folder)?;
-    for (octets, number) in inputs(seed).zip(1..=count) {
+    for (octets, number) in inputs(node, seed).zip(1..=count) {
         fs::write(folder.join(format!("{number:04}")), octets)?;
     }
     Ok(())
 }
 
 /// The damaged inputs of a seed, one after the other.
-fn inputs(seed: u64) -> impl Iterator<Item = Vec<u8>> {
+fn inputs(node: Node, seed: u64) -> impl Iterator<Item = Vec<u8>> {
     let mut draw = Draw::from_seed(seed);
     DAMAGES.iter().cycle().map(move |damage| {
-        let run = short_run(&mut draw);
-        damage(&mut draw, run)
+        let run = short_run(node, &mut draw);
+        damage(node, &mut draw, run)
     })
 }
 
 /// The records of a made run that go to two of its keys, or to key 0, from its start.
-fn short_run(draw: &mut Draw) -> Vec<[u8; EVENT_OCTETS]> {
+fn short_run(node: Node, draw: &mut Draw) -> Vec<[u8; EVENT_OCTETS]> {
     let keys = [draw.among(FEW_KEYS), draw.among(FEW_KEYS), 0];
     let count = draw.below(MOST_RECORDS + 1);
-    let run = make_trace::records(u64::from(draw.word()), u64::MAX);
-    let goes_to_keys =
-        |octets: &[u8; EVENT_OCTETS]| decode(octets).is_some_and(|asked| keys.contains(&asked.key));
+    let run = make_trace::records(node, u64::from(draw.word()), u64::MAX);
+    let goes_to_keys = |octets: &[u8; EVENT_OCTETS]| {
+        decode(node, octets).is_some_and(|asked| keys.contains(&asked.key))
+    };
     run.filter(goes_to_keys).take(count).collect()
 }
 
-fn octets_at_random(draw: &mut Draw, run: Vec<[u8; EVENT_OCTETS]>) -> Vec<u8> {
+fn octets_at_random(_: Node, draw: &mut Draw, run: Vec<[u8; EVENT_OCTETS]>) -> Vec<u8> {
     let count = draw.below(run.len() * EVENT_OCTETS + 1);
     draw.octets(count)
 }
 
 /// Whole records, most of their octets so small that they are often named.
-fn records_at_random(draw: &mut Draw, run: Vec<[u8; EVENT_OCTETS]>) -> Vec<u8> {
+fn records_at_random(_: Node, draw: &mut Draw, run: Vec<[u8; EVENT_OCTETS]>) -> Vec<u8> {
     run.iter().flat_map(|_| record_at_random(draw)).collect()
 }
 
@@ -78,7 +80,7 @@ fn record_at_random(draw: &mut Draw) -> [u8; EVENT_OCTETS] {
 }
 
 /// One to three bits.
-fn bits_flipped(draw: &mut Draw, run: Vec<[u8; EVENT_OCTETS]>) -> Vec<u8> {
+fn bits_flipped(_: Node, draw: &mut Draw, run: Vec<[u8; EVENT_OCTETS]>) -> Vec<u8> {
     let mut octets = run.concat();
     for _ in 0..=draw.below(3) {
         let place = draw.below(octets.len());
@@ -90,7 +92,7 @@ fn bits_flipped(draw: &mut Draw, run: Vec<[u8; EVENT_OCTETS]>) -> Vec<u8> {
 }
 
 /// Up to twenty octets: what follows is no longer where records begin.
-fn octets_cut_out(draw: &mut Draw, run: Vec<[u8; EVENT_OCTETS]>) -> Vec<u8> {
+fn octets_cut_out(_: Node, draw: &mut Draw, run: Vec<[u8; EVENT_OCTETS]>) -> Vec<u8> {
     let mut octets = run.concat();
     let start = draw.below(octets.len());
     let end = octets.len().min(start + 1 + draw.below(20));
@@ -98,14 +100,14 @@ fn octets_cut_out(draw: &mut Draw, run: Vec<[u8; EVENT_OCTETS]>) -> Vec<u8> {
     octets
 }
 
-fn ended_early(draw: &mut Draw, run: Vec<[u8; EVENT_OCTETS]>) -> Vec<u8> {
+fn ended_early(_: Node, draw: &mut Draw, run: Vec<[u8; EVENT_OCTETS]>) -> Vec<u8> {
     let mut octets = run.concat();
     octets.truncate(draw.below(octets.len() + 1));
     octets
 }
 
 /// One of its own once more, or one at random.
-fn record_inserted(draw: &mut Draw, mut run: Vec<[u8; EVENT_OCTETS]>) -> Vec<u8> {
+fn record_inserted(_: Node, draw: &mut Draw, mut run: Vec<[u8; EVENT_OCTETS]>) -> Vec<u8> {
     let place = draw.below(run.len() + 1);
     let at_random = record_at_random(draw);
     let own = run.get(draw.below(run.len())).copied().unwrap_or(at_random);
@@ -114,7 +116,7 @@ fn record_inserted(draw: &mut Draw, mut run: Vec<[u8; EVENT_OCTETS]>) -> Vec<u8>
 }
 
 /// One to three.
-fn records_dropped(draw: &mut Draw, mut run: Vec<[u8; EVENT_OCTETS]>) -> Vec<u8> {
+fn records_dropped(_: Node, draw: &mut Draw, mut run: Vec<[u8; EVENT_OCTETS]>) -> Vec<u8> {
     for _ in 0..=draw.below(3) {
         let place = draw.below(run.len());
         if place < run.len() {
@@ -124,7 +126,7 @@ fn records_dropped(draw: &mut Draw, mut run: Vec<[u8; EVENT_OCTETS]>) -> Vec<u8>
     run.concat()
 }
 
-fn records_swapped(draw: &mut Draw, mut run: Vec<[u8; EVENT_OCTETS]>) -> Vec<u8> {
+fn records_swapped(_: Node, draw: &mut Draw, mut run: Vec<[u8; EVENT_OCTETS]>) -> Vec<u8> {
     if !run.is_empty() {
         let (one, other) = (draw.below(run.len()), draw.below(run.len()));
         run.swap(one, other);
@@ -133,13 +135,13 @@ fn records_swapped(draw: &mut Draw, mut run: Vec<[u8; EVENT_OCTETS]>) -> Vec<u8>
 }
 
 /// In one of the ways of `make_trace`. Cut short, it moves what stands behind it.
-fn record_made_bad(draw: &mut Draw, run: Vec<[u8; EVENT_OCTETS]>) -> Vec<u8> {
+fn record_made_bad(node: Node, draw: &mut Draw, run: Vec<[u8; EVENT_OCTETS]>) -> Vec<u8> {
     let place = draw.below(run.len());
     let way = u64::from(draw.word());
     let mut octets = Vec::new();
     for (number, &record) in run.iter().enumerate() {
         if number == place {
-            octets.extend(make_trace::bad_record(way, record, draw));
+            octets.extend(make_trace::bad_record(node, way, record, draw));
         } else {
             octets.extend(record);
         }

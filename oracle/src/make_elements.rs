@@ -20,9 +20,9 @@ use crate::maker::Maker;
 
 pub const MAKER: Maker = Maker { case: |draw| case(draw).octets(), bad_case: bad::case };
 
-const KIND_COUNT: u8 = 10;
+const KIND_COUNT: u8 = 11;
 const CAUSE_COUNT: u8 = 3;
-const RELEASES: [u8; 3] = [4, 5, 6];
+const RELEASES: [u8; 4] = [4, 5, 6, 10];
 const BY_NUMBER: u8 = 1;
 const AS_RECEIVED: u8 = 2;
 

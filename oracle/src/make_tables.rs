@@ -1,4 +1,4 @@
-//! Cases for a comparison over whole tables.
+//! Cases for a comparison over whole tables of an end.
 //!
 //! | Module | What it holds |
 //! |---|---|
@@ -21,6 +21,7 @@ use crate::draw::Draw;
 use crate::event_record::EVENT_OCTETS;
 use crate::maker::Maker;
 use crate::tables::RECORD_OCTETS;
+use crate::vocabulary::Node;
 
 /// A case in octets.
 struct MadeCase {
@@ -36,12 +37,23 @@ impl MadeCase {
     }
 }
 
-pub const MAKER: Maker = Maker { case: |draw| case(draw).octets(), bad_case: bad::case };
+pub fn maker(node: Node) -> Maker {
+    match node {
+        Node::Source => Maker {
+            case: |draw| case(Node::Source, draw).octets(),
+            bad_case: |seed, draw| bad::case(Node::Source, seed, draw),
+        },
+        Node::Destination => Maker {
+            case: |draw| case(Node::Destination, draw).octets(),
+            bad_case: |seed, draw| bad::case(Node::Destination, seed, draw),
+        },
+    }
+}
 
-fn case(draw: &mut Draw) -> MadeCase {
+fn case(node: Node, draw: &mut Draw) -> MadeCase {
     let count = record_count(draw);
     let table = table(draw, count);
-    MadeCase { event: event(draw, &table), records: table.octets(draw) }
+    MadeCase { event: event(node, draw, &table), records: table.octets(draw) }
 }
 
 fn record_count(draw: &mut Draw) -> usize {

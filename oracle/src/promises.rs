@@ -1,25 +1,40 @@
-//! What must hold in every cell, said without the rows: refusals change nothing, signals keep their
-//! order, the timer follows the Hard states, and every connection is accounted for.
+//! What must hold in every cell of both ends, said without the rows: refusals change nothing,
+//! signals keep their order, the timer follows the Hard states, and every connection is accounted
+//! for.
 
-use crate::call::{Call, Outcome, State};
+use crate::call::{Call, Outcome, Soft, State};
 use crate::cells;
-use crate::vocabulary::{Answer, Event, Signal, SignalKind, SILENT};
+use crate::vocabulary::{
+    Answer, Event, Node, ReroutingCause, Signal, SignalKind, SwitchoverCode, SILENT,
+};
 
-fn each_cell(check: impl Fn(Call, Event, Outcome)) {
-    for state in 0..=7 {
-        for call in cells::records(state) {
-            for event in cells::events() {
-                check(call, event, call.after(event));
+const NODES: [Node; 2] = [Node::Source, Node::Destination];
+
+/// A record, what it meets and what becomes of it. The words of a failing check name the cell.
+#[derive(Clone, Copy, Debug)]
+struct Cell {
+    node: Node,
+    before: Call,
+    event: Event,
+    after: Outcome,
+}
+
+fn each_cell(check: impl Fn(Cell)) {
+    for node in NODES {
+        let events = cells::events(node);
+        for before in (0..=7).flat_map(cells::records) {
+            for &event in &events {
+                check(Cell { node, before, event, after: before.after(node, event) });
             }
         }
     }
 }
 
 /// The cells in which a number names one connection at most.
-fn each_fit_cell(check: impl Fn(Call, Event, Outcome)) {
-    each_cell(|before, event, after| match (before.state.incumbent(), before.state.rerouting()) {
+fn each_fit_cell(check: impl Fn(Cell)) {
+    each_cell(|cell| match (cell.before.state.incumbent(), cell.before.state.rerouting()) {
         (Some(incumbent), Some(rerouting)) if incumbent == rerouting => {}
-        _ => check(before, event, after),
+        _ => check(cell),
     });
 }
 
@@ -29,8 +44,8 @@ fn held(call: Call) -> Vec<u16> {
 
 fn in_hard_states(call: Call) -> bool {
     match call.state {
-        State::HardRerouteTriggered => true,
-        State::HardRerouteProceeding { .. } => true,
+        State::HardWaiting => true,
+        State::HardUnderway { .. } => true,
         State::Null => false,
         State::ReroutingIdle { .. } => false,
         State::SoftRerouteTriggered { .. } => false,
@@ -45,7 +60,8 @@ fn place(kind: SignalKind) -> u8 {
     match kind {
         SignalKind::TimerStart | SignalKind::TimerStop => 1,
         SignalKind::Switch => 2,
-        SignalKind::ReleaseCalling => 3,
+        // One place for the release towards the node's own party (decision 63).
+        SignalKind::ReleaseCalling | SignalKind::ReleaseCalled => 3,
         SignalKind::ReleaseIncumbent => 4,
         SignalKind::ReleaseRerouting => 5,
         SignalKind::Setup | SignalKind::Connect | SignalKind::Reject => 6,
@@ -63,65 +79,110 @@ fn sends(outcome: &Outcome, kind: SignalKind) -> bool {
 
 #[test]
 fn cells_are_all_printed() {
-    let mut printed = Vec::new();
-    cells::print(&b"01234567o\n"[..], &mut printed).expect("a vector takes every byte");
-    assert_eq!(printed.iter().filter(|&&byte| byte == b'\n').count(), 198 * 111 + 21);
-    let example = "7 1 2 5 3 5 10 100 | called 3 cause 4 alternate | 0 | 0 0 0 0 0 0 0 0 \
-                   | release calling #2, release rerouting 5 #2";
-    let text = String::from_utf8(printed).expect("cells are ASCII");
-    assert!(text.lines().any(|line| line == example));
+    let source = "7 1 2 5 3 5 10 100 | called 3 cause 4 alternate | 0 | 0 0 0 0 0 0 0 0 \
+                  | release calling #2, release rerouting 5 #2";
+    // 6.3.4.5 case 3: the rerouting connection's own release has no Rerouting cause.
+    let destination = "7 1 2 6 3 5 10 100 | calling 3 cause 4 alternate | 0 | 0 0 0 0 0 0 0 0 \
+                       | release called #2, release rerouting 5";
+    for (node, example) in [(Node::Source, source), (Node::Destination, destination)] {
+        let mut printed = Vec::new();
+        cells::print(node, &b"01234567o\n"[..], &mut printed).expect("a vector takes every byte");
+        assert_eq!(printed.iter().filter(|&&byte| byte == b'\n').count(), 198 * 111 + 21);
+        let text = String::from_utf8(printed).expect("cells are ASCII");
+        assert!(text.lines().any(|line| line == example));
+    }
+}
+
+/// Releases from the calling side stand before those from the called side at either end.
+#[test]
+fn cells_stand_in_the_printed_order() {
+    for (node, calling, called) in [(Node::Source, 6, 72), (Node::Destination, 72, 6)] {
+        let mut printed = Vec::new();
+        cells::print(node, &b"1"[..], &mut printed).expect("a vector takes every byte");
+        let text = String::from_utf8(printed).expect("cells are ASCII");
+        let event = |line: &str| line.split(" | ").nth(1).unwrap_or("").to_string();
+        let events: Vec<String> = text.lines().take(111).map(event).collect();
+        let named = |name: &str, place: usize| events[place].split(' ').next() == Some(name);
+        assert!((31..31 + calling).all(|place| named("calling", place)), "{node:?}");
+        let first_called = 31 + calling;
+        assert!((first_called..first_called + called).all(|place| named("called", place)));
+        assert_eq!(events[..3], ["trigger", "path", "nopath"]);
+        assert_eq!(events[109..], ["ready", "expiry"]);
+    }
 }
 
 #[test]
 fn refusals_change_nothing() {
-    each_cell(|before, event, after| {
+    each_cell(|cell| {
+        let Cell { before, after, .. } = cell;
         if after.answer != Answer::Done {
-            assert_eq!((after.call, after.signals), (before, SILENT), "{before} | {event}");
+            assert_eq!((after.call, after.signals), (before, SILENT), "{cell:?}");
         }
     });
 }
 
 #[test]
 fn signals_keep_their_order_from_the_front() {
-    each_cell(|before, event, after| {
-        for pair in after.signals.windows(2) {
+    each_cell(|cell| {
+        for pair in cell.after.signals.windows(2) {
             let (first, second) = (place(pair[0].kind), place(pair[1].kind));
-            assert!(first < second || (first, second) == (7, 7), "{before} | {event}");
+            assert!(first < second || (first, second) == (7, 7), "{cell:?}");
         }
     });
 }
 
+/// Two at the source (decision 18), three at the destination (decision 63).
 #[test]
-fn timer_follows_the_hard_states() {
-    each_cell(|before, event, after| {
-        let (was, is) = (in_hard_states(before), in_hard_states(after.call));
-        let expired = event == Event::TimerExpiry;
-        assert_eq!(sends(&after, SignalKind::TimerStart), !was && is, "{before} | {event}");
-        assert_eq!(
-            sends(&after, SignalKind::TimerStop),
-            was && !is && !expired,
-            "{before} | {event}"
-        );
-    });
+fn signals_are_few() {
+    for (node, most) in [(Node::Source, 2), (Node::Destination, 3)] {
+        let mut met = 0;
+        let events = cells::events(node);
+        for before in (0..=7).flat_map(cells::records) {
+            for &event in &events {
+                let signals = before.after(node, event).signals;
+                let sent = signals.iter().filter(|signal| signal.kind != SignalKind::None);
+                met = met.max(sent.count());
+            }
+        }
+        assert_eq!(met, most, "{node:?}");
+    }
 }
 
 #[test]
-fn null_is_an_empty_record_and_clears_the_calling_side() {
-    each_cell(|before, event, after| {
+fn timer_follows_the_hard_states() {
+    each_cell(|cell| {
+        let Cell { before, event, after, .. } = cell;
+        let (was, is) = (in_hard_states(before), in_hard_states(after.call));
+        let expired = event == Event::TimerExpiry;
+        assert_eq!(sends(&after, SignalKind::TimerStart), !was && is, "{cell:?}");
+        assert_eq!(sends(&after, SignalKind::TimerStop), was && !is && !expired, "{cell:?}");
+    });
+}
+
+/// The party is told exactly where the call ends otherwise than by it; nobody else's side is.
+#[test]
+fn null_is_an_empty_record_and_clears_the_party() {
+    each_cell(|cell| {
+        let Cell { node, before, event, after } = cell;
         let ended = before.state != State::Null && after.call.state == State::Null;
-        let from_calling = matches!(event, Event::CallingRelease { .. });
-        assert_eq!(ended, after.call == Call::EMPTY, "{before} | {event}");
-        let cleared = sends(&after, SignalKind::ReleaseCalling);
-        assert_eq!(cleared, ended && !from_calling, "{before} | {event}");
+        let from_party = matches!(event, Event::FromParty { .. });
+        assert_eq!(ended, after.call == Call::EMPTY, "{cell:?}");
+        let (own, other) = match node {
+            Node::Source => (SignalKind::ReleaseCalling, SignalKind::ReleaseCalled),
+            Node::Destination => (SignalKind::ReleaseCalled, SignalKind::ReleaseCalling),
+        };
+        assert_eq!(sends(&after, own), ended && !from_party, "{cell:?}");
+        assert!(!sends(&after, other), "{cell:?}");
     });
 }
 
 /// A connection that is held no more was released once: by the event that names it or by a signal.
 #[test]
 fn connections_that_go_are_released_once() {
-    each_fit_cell(|before, event, after| {
+    each_fit_cell(|cell| {
+        let Cell { before, event, after, .. } = cell;
         let mut gone: Vec<u16> = Vec::new();
-        if let (Event::CalledRelease(release), Answer::Done) = (event, after.answer) {
+        if let (Event::FromDomain(release), Answer::Done) = (event, after.answer) {
             gone.push(release.connection);
         }
         for kind in [SignalKind::ReleaseIncumbent, SignalKind::ReleaseRerouting] {
@@ -132,18 +193,19 @@ fn connections_that_go_are_released_once() {
         missing.retain(|connection| !kept.contains(connection));
         gone.sort_unstable();
         missing.sort_unstable();
-        assert_eq!(gone, missing, "{before} | {event}");
+        assert_eq!(gone, missing, "{cell:?}");
     });
 }
 
 #[test]
 fn releases_name_the_connection_of_their_kind() {
-    each_cell(|before, event, after| {
+    each_cell(|cell| {
+        let Cell { before, after, .. } = cell;
         for signal in sent(&after, SignalKind::ReleaseIncumbent) {
-            assert_eq!(Some(signal.connection), before.state.incumbent(), "{before} | {event}");
+            assert_eq!(Some(signal.connection), before.state.incumbent(), "{cell:?}");
         }
         for signal in sent(&after, SignalKind::ReleaseRerouting) {
-            assert_eq!(Some(signal.connection), before.state.rerouting(), "{before} | {event}");
+            assert_eq!(Some(signal.connection), before.state.rerouting(), "{cell:?}");
         }
     });
 }
@@ -152,23 +214,24 @@ fn releases_name_the_connection_of_their_kind() {
 /// new connection the last number stands.
 #[test]
 fn new_connections_take_the_next_number() {
-    each_fit_cell(|before, event, after| {
+    each_fit_cell(|cell| {
+        let Cell { before, event, after, .. } = cell;
         let mut new: Vec<u16> = held(after.call);
         new.retain(|connection| !held(before).contains(connection));
         let next = before.last.checked_add(1);
         let received = matches!(event, Event::Setup { .. });
         match new.as_slice() {
-            [] => assert!(
-                after.call.last == before.last || after.call == Call::EMPTY,
-                "{before} | {event}"
-            ),
+            [] => {
+                let stands = after.call.last == before.last || after.call == Call::EMPTY;
+                assert!(stands, "{cell:?}");
+            }
             [number] => {
-                assert_eq!((Some(*number), after.call.last), (next, *number), "{before} | {event}");
+                assert_eq!((Some(*number), after.call.last), (next, *number), "{cell:?}");
                 let setups = sent(&after, SignalKind::Setup);
-                assert_eq!(setups.is_empty(), received, "{before} | {event}");
+                assert_eq!(setups.is_empty(), received, "{cell:?}");
                 assert!(setups.iter().all(|setup| setup.connection == *number));
             }
-            _ => panic!("two new connections: {before} | {event}"),
+            _ => panic!("two new connections: {cell:?}"),
         }
     });
 }
@@ -176,25 +239,117 @@ fn new_connections_take_the_next_number() {
 /// A switch is sent where, and only where, the rerouting connection becomes the incumbent.
 #[test]
 fn switches_follow_the_connections() {
-    each_fit_cell(|before, event, after| {
+    each_fit_cell(|cell| {
+        let Cell { before, after, .. } = cell;
         let switched: Vec<u16> =
             sent(&after, SignalKind::Switch).iter().map(|signal| signal.connection).collect();
         let expected: Vec<u16> = match (before.state.rerouting(), after.call.state.incumbent()) {
             (Some(rerouting), Some(incumbent)) if rerouting == incumbent => vec![rerouting],
             _ => vec![],
         };
-        assert_eq!(switched, expected, "{before} | {event}");
+        assert_eq!(switched, expected, "{cell:?}");
+    });
+}
+
+/// A connect names the rerouting connection as it was held before.
+#[test]
+fn connects_name_the_rerouting_connection() {
+    each_cell(|cell| {
+        for signal in sent(&cell.after, SignalKind::Connect) {
+            assert_eq!(Some(signal.connection), cell.before.state.rerouting(), "{cell:?}");
+        }
     });
 }
 
 /// Only an accepted setup stores a number, and a greater one.
 #[test]
 fn remote_number_only_grows() {
-    each_cell(|before, event, after| {
+    each_cell(|cell| {
+        let Cell { before, event, after, .. } = cell;
         if after.call != Call::EMPTY && after.call.remote != before.remote {
-            assert!(after.call.remote > before.remote, "{before} | {event}");
-            let initiated = matches!(after.call.state, State::SoftRerouteInitiated { .. });
-            assert!(initiated && matches!(event, Event::Setup { .. }), "{before} | {event}");
+            assert!(after.call.remote > before.remote, "{cell:?}");
+            let number = match event {
+                Event::Setup { number, .. } => Some(number),
+                _ => None,
+            };
+            assert_eq!(number, Some(after.call.remote), "{cell:?}");
+            assert_eq!(after.call.state.rerouting(), before.last.checked_add(1), "{cell:?}");
         }
+    });
+}
+
+/// Whether a setup has a meaning for the call: symmetric soft at the source (01, 106), any service
+/// at the destination (decision 58).
+fn takes_setups(node: Node, call: Call) -> bool {
+    match node {
+        Node::Source => call.soft == Soft::Symmetric,
+        Node::Destination => call.hard || call.soft != Soft::None,
+    }
+}
+
+/// Whether the end knows that switchover in that state: the source the clearing one alone (01,
+/// "Setup" 1), the destination both, and in its Hard states every one (decision 77).
+fn knows_switchover(node: Node, call: Call, switchover: SwitchoverCode) -> bool {
+    let clearing = switchover == SwitchoverCode::CLEARING;
+    match node {
+        Node::Source => clearing,
+        Node::Destination => {
+            clearing || switchover == SwitchoverCode::IMMEDIATE || in_hard_states(call)
+        }
+    }
+}
+
+/// A late setup changes nothing, and is told so with #8 or #5 and nothing else (decision 77).
+#[test]
+fn late_setups_change_nothing() {
+    each_cell(|cell| {
+        let Cell { node, before, event, after } = cell;
+        let Event::Setup { switchover, number } = event else { return };
+        if number > before.remote || before.state == State::Null || !takes_setups(node, before) {
+            return;
+        }
+        let cause = if knows_switchover(node, before, switchover) {
+            ReroutingCause::OLD_INCARNATION_NUMBER
+        } else {
+            ReroutingCause::UNSUPPORTED_SWITCHOVER
+        };
+        let rejected = [Signal::reject(cause), Signal::NONE, Signal::NONE, Signal::NONE];
+        let told = (after.answer, after.call, after.signals);
+        assert_eq!(told, (Answer::Done, before, rejected), "{cell:?}");
+    });
+}
+
+/// Key and services stay as long as the call does.
+#[test]
+fn key_and_services_stay() {
+    each_cell(|cell| {
+        let Cell { before, after, .. } = cell;
+        let named = |call: Call| (call.key, call.hard, call.soft);
+        assert!(after.call == Call::EMPTY || named(after.call) == named(before), "{cell:?}");
+    });
+}
+
+/// A number that is held twice names the incumbent (decision 26): what becomes of it is what
+/// becomes of the incumbent beside another rerouting connection.
+#[test]
+fn number_held_twice_names_the_incumbent() {
+    let other = 9;
+    let renamed = |number: u16| if number == other { 4 } else { number };
+    each_cell(|cell| {
+        let Cell { node, before, event, after } = cell;
+        let doubled = (before.state.incumbent(), before.state.rerouting()) == (Some(4), Some(4));
+        let named = matches!(event, Event::FromDomain(release) if release.connection == 4);
+        if !doubled || !named {
+            return;
+        }
+        let apart = State::of_number(before.state.number(), 4, other).expect("a state");
+        let beside = Call { state: apart, ..before }.after(node, event);
+        let (number, incumbent, rerouting) = beside.call.state.numbers();
+        let state = State::of_number(number, renamed(incumbent), renamed(rerouting));
+        let signals = beside
+            .signals
+            .map(|signal| Signal { connection: renamed(signal.connection), ..signal });
+        let expected = (beside.answer, state, signals);
+        assert_eq!((after.answer, Some(after.call.state), after.signals), expected, "{cell:?}");
     });
 }

@@ -1,6 +1,7 @@
-//! The list of rows (rows.txt), and how often a run meets each of them.
+//! The list of an end's rows (rows.txt, destination_rows.txt), and how often a run meets each of
+//! them.
 //!
-//! The list was written from document 01 and the standard, and its words decide here: an event goes
+//! A list was written from the documents and the standard, and its words decide here: an event goes
 //! to the row whose state, event and condition fit it, and what was done must be what the row says.
 //! The functions that carry events out have no part in that.
 //!
@@ -24,6 +25,8 @@ use std::io::{Read, Result, Write};
 use self::list::List;
 use self::tally::Tally;
 use crate::make_trace;
+use crate::vocabulary::Node;
+use crate::words::ProgramName;
 
 /// A run to make: its seed, and how many records.
 #[derive(Clone, Copy, Debug, PartialEq, Eq)]
@@ -50,21 +53,22 @@ pub enum Runs<'a, Input> {
 /// Prints the count of every row, in the order of the list. Hands back a line for each thing that
 /// does not fit; with `all` also for each row that is met though it is unreachable, or not met.
 pub fn print(
+    node: Node,
     list_text: &str,
     all: bool,
     runs: Runs<impl Read>,
     out: &mut impl Write,
 ) -> Result<Option<String>> {
-    let list = match List::of_text(list_text) {
+    let list = match List::of_text(node, list_text) {
         Ok(list) => list,
-        Err(faults) => return Ok(complaint(faults)),
+        Err(faults) => return Ok(complaint(node, faults)),
     };
-    let mut tally = Tally::new(&list);
+    let mut tally = Tally::new(node, &list);
     match runs {
         Runs::Read(mut input) => tally.read_run(&mut input, out)?,
         Runs::Made(made) => {
             for &Made { seed, count } in made {
-                tally.made_run(make_trace::records(seed, count));
+                tally.made_run(make_trace::records(node, seed, count));
             }
         }
     }
@@ -72,11 +76,12 @@ pub fn print(
         writeln!(out, "{count} {}", row.name)?;
     }
     out.flush()?;
-    Ok(complaint(tally.faults(all)))
+    Ok(complaint(node, tally.faults(all)))
 }
 
 /// A line each, nothing where there is none.
-fn complaint(faults: Vec<String>) -> Option<String> {
-    let lines: Vec<String> = faults.iter().map(|fault| format!("rows: {fault}")).collect();
+fn complaint(node: Node, faults: Vec<String>) -> Option<String> {
+    let rows = ProgramName(node, "rows");
+    let lines: Vec<String> = faults.iter().map(|fault| format!("{rows}: {fault}")).collect();
     Some(lines.join("\n")).filter(|lines| !lines.is_empty())
 }

@@ -1,4 +1,4 @@
-//! Readable lines into event records, in the form of docs/BENCH.md.
+//! Readable lines into event records of an end, in the form of docs/BENCH.md.
 //!
 //! | Module | What it holds |
 //! |---|---|
@@ -17,6 +17,8 @@ use self::event::event;
 use self::line::{Line, LENGTH};
 use crate::event_record::encode;
 use crate::record_input::{read_some, BUFFER_OCTETS};
+use crate::vocabulary::Node;
+use crate::words::ProgramName;
 
 /// What follows the records before a line that names no event: too short for a record, and no
 /// event's number, so that a trace of it ends in `bad`.
@@ -24,7 +26,7 @@ const NO_EVENT: [u8; 1] = [255];
 
 /// Writes the record of each line. Where a line names no event the run ends, and the complaint is
 /// handed back. What came is written before more is waited for.
-pub fn print(mut input: impl Read, out: &mut impl Write) -> Result<Option<String>> {
+pub fn print(node: Node, mut input: impl Read, out: &mut impl Write) -> Result<Option<String>> {
     let mut buffer = vec![0; BUFFER_OCTETS];
     let mut line = Line::EMPTY;
     let mut number: u64 = 1;
@@ -34,12 +36,12 @@ pub fn print(mut input: impl Read, out: &mut impl Write) -> Result<Option<String
         for &octet in &buffer[..count] {
             // The length is judged before the words are, and nothing more of the line is read.
             let expected = match octet {
-                b'\n' => write_line(&line, out)?,
+                b'\n' => write_line(node, &line, out)?,
                 other if line.put(other) => continue,
                 _ => Some(LENGTH),
             };
             if let Some(expected) = expected {
-                return complaint(number, expected, out);
+                return complaint(node, number, expected, out);
             }
             line = Line::EMPTY;
             number += 1;
@@ -49,27 +51,33 @@ pub fn print(mut input: impl Read, out: &mut impl Write) -> Result<Option<String
         }
     }
     // The last line may lack its end.
-    match write_line(&line, out)? {
-        Some(expected) => complaint(number, expected, out),
+    match write_line(node, &line, out)? {
+        Some(expected) => complaint(node, number, expected, out),
         None => out.flush().map(|()| None),
     }
 }
 
-fn complaint(number: u64, expected: &str, out: &mut impl Write) -> Result<Option<String>> {
+fn complaint(
+    node: Node,
+    number: u64,
+    expected: &str,
+    out: &mut impl Write,
+) -> Result<Option<String>> {
     out.write_all(&NO_EVENT)?;
     out.flush()?;
-    Ok(Some(format!("script: line {number}: expected {expected}")))
+    let script = ProgramName(node, "script");
+    Ok(Some(format!("{script}: line {number}: expected {expected}")))
 }
 
 /// Writes the record of a line, nothing for a line without words; hands back what was expected
 /// where the line names no event.
-fn write_line(line: &Line, out: &mut impl Write) -> Result<Option<&'static str>> {
+fn write_line(node: Node, line: &Line, out: &mut impl Write) -> Result<Option<&'static str>> {
     if line.words().is_empty() {
         return Ok(None);
     }
-    match event(line.words()) {
+    match event(node, line.words()) {
         Ok(event) => {
-            out.write_all(&encode(&event))?;
+            out.write_all(&encode(node, &event))?;
             Ok(None)
         }
         Err(expected) => Ok(Some(expected)),

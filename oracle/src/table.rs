@@ -1,4 +1,4 @@
-//! The table: a row of call records, and what an opening or an event does to it.
+//! The table of an end: a row of call records, and what an opening or an event does to it.
 //!
 //! The checks run in the order of 01, "Numbers of refusal": for an opening 101, 102, 103 and 104,
 //! for an event 101, 102, 105 and then those of the call on record, 106 to 108. After a refusal
@@ -6,7 +6,7 @@
 //! place.
 
 use crate::call::{Call, Services, State};
-use crate::vocabulary::{Answer, Event, Signals, SILENT};
+use crate::vocabulary::{Answer, Event, Node, Signals, SILENT};
 
 /// The most records of a fit table (01, "The table and its records").
 pub const MOST_RECORDS: usize = 1_024;
@@ -33,11 +33,11 @@ impl Reply {
     }
 }
 
-/// Carries out what is asked under a key.
-pub fn meet(table: &mut [Call], key: u32, request: Request) -> Reply {
+/// Carries out what is asked under a key at that end; openings are the same at both (decision 61).
+pub fn meet(node: Node, table: &mut [Call], key: u32, request: Request) -> Reply {
     match request {
         Request::Opening(named) => open(table, key, named),
-        Request::Event(event) => event_on_record(table, key, event),
+        Request::Event(event) => event_on_record(node, table, key, event),
     }
 }
 
@@ -64,7 +64,7 @@ fn open(table: &mut [Call], key: u32, named: Option<Services>) -> Reply {
 
 /// An event: 101, 102, 105, or what the call on record makes of it. A call that reaches Null comes
 /// back as an empty record, and one that refuses as it was.
-fn event_on_record(table: &mut [Call], key: u32, event: Event) -> Reply {
+fn event_on_record(node: Node, table: &mut [Call], key: u32, event: Event) -> Reply {
     if unfit(table) {
         return Reply::refused(Answer::TableUnfit);
     }
@@ -74,7 +74,7 @@ fn event_on_record(table: &mut [Call], key: u32, event: Event) -> Reply {
     match table.iter_mut().find(|call| call.key == key) {
         None => Reply::refused(Answer::KeyNotOnRecord),
         Some(call) => {
-            let after = call.after(event);
+            let after = call.after(node, event);
             *call = after.call;
             Reply { answer: after.answer, signals: after.signals }
         }

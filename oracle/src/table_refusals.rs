@@ -1,16 +1,16 @@
-//! What the table refuses: each cause of 101 alone, what 101 does not name, the edges of 01, and
-//! the order of the checks where two apply.
+//! What the table of either end refuses: each cause of 101 alone, what 101 does not name, the edges
+//! of 01, and the order of the checks where two apply.
 
 use crate::call::{Call, Soft, State};
 use crate::table::{meet, Request, CAUSES_OF_UNFITNESS};
-use crate::vocabulary::{CalledRelease, Crankback, Event, Policy, SwitchoverCode, SILENT};
+use crate::vocabulary::{Crankback, DomainRelease, Event, Node, Policy, SwitchoverCode, SILENT};
 
 const OPENING: Request = Request::Opening(None);
 const TRIGGER: Request = Request::Event(Event::Trigger);
 const PATH_FOUND: Request = Request::Event(Event::PathFound);
 const READY: Request = Request::Event(Event::Ready);
 const CONNECT_9: Request = Request::Event(Event::Connect { connection: 9, policy: Policy::Yes });
-const RELEASE_9: Request = Request::Event(Event::CalledRelease(CalledRelease {
+const RELEASE_9: Request = Request::Event(Event::FromDomain(DomainRelease {
     connection: 9,
     cause: None,
     crankback: Crankback::None,
@@ -31,13 +31,21 @@ fn idle_calls(count: u32) -> Vec<Call> {
     (1..=count).map(idle).collect()
 }
 
-fn answer(table: &[Call], key: u32, request: Request) -> u8 {
+fn answer_at(node: Node, table: &[Call], key: u32, request: Request) -> u8 {
     let mut after = table.to_vec();
-    let reply = meet(&mut after, key, request);
+    let reply = meet(node, &mut after, key, request);
     if reply.answer.number() != 0 {
         assert_eq!((after.as_slice(), reply.signals), (table, SILENT), "{key} {request:?}");
     }
     reply.answer.number()
+}
+
+/// Where both ends must answer alike.
+fn answer(table: &[Call], key: u32, request: Request) -> u8 {
+    let [source, destination] =
+        [Node::Source, Node::Destination].map(|node| answer_at(node, table, key, request));
+    assert_eq!(source, destination, "{key} {request:?}");
+    source
 }
 
 /// The table is unfit for that cause and no other, and 101 comes before every other answer.
@@ -92,7 +100,7 @@ fn one_key_in_two_records() {
         unfit_alone(1, &table);
     }
     let mut table = idle_calls(1_024);
-    table[1_023] = call(1, State::HardRerouteTriggered, 5);
+    table[1_023] = call(1, State::HardWaiting, 5);
     unfit_alone(1, &table);
 }
 
@@ -102,7 +110,7 @@ fn empty_record_not_all_empty() {
         Call { hard: true, ..Call::EMPTY },
         Call { soft: Soft::Asymmetric, ..Call::EMPTY },
         Call { soft: Soft::Symmetric, ..Call::EMPTY },
-        Call { state: State::HardRerouteTriggered, ..Call::EMPTY },
+        Call { state: State::HardWaiting, ..Call::EMPTY },
         Call { last: 1, ..Call::EMPTY },
         Call { last: 256, ..Call::EMPTY },
         Call { remote: 1, ..Call::EMPTY },
@@ -122,7 +130,7 @@ fn call_in_null() {
 
 #[test]
 fn call_without_last_number() {
-    unfit_record(3, call(7, State::HardRerouteTriggered, 0));
+    unfit_record(3, call(7, State::HardWaiting, 0));
     unfit_record(3, Call { key: 7, ..Call::EMPTY });
 }
 
@@ -168,9 +176,9 @@ fn causes_in_pairs() {
     let records = [
         Call { remote: 1, ..Call::EMPTY },
         call(7, State::Null, 1),
-        call(8, State::HardRerouteTriggered, 0),
+        call(8, State::HardWaiting, 0),
         call(9, State::ReroutingIdle { incumbent: 0 }, 1),
-        call(10, State::HardRerouteProceeding { rerouting: 2 }, 1),
+        call(10, State::HardUnderway { rerouting: 2 }, 1),
         call(11, awaiting(2, 2), 2),
         call(12, awaiting(3, 3), 2),
         call(13, awaiting(0, 0), 2),
@@ -193,7 +201,7 @@ fn what_101_does_not_name_is_fit() {
         let bare = Call { hard: false, soft: Soft::None, remote: u32::MAX, ..call(7, state, 2) };
         fit(&[bare, Call::EMPTY]);
     }
-    fit(&[call(7, State::HardRerouteTriggered, 1), idle(65_543)]);
+    fit(&[call(7, State::HardWaiting, 1), idle(65_543)]);
     fit(&[call(7, State::SoftRerouteInitiated { incumbent: MANY, rerouting: 1 }, MANY)]);
 }
 
@@ -219,11 +227,11 @@ fn last_number_65534_still_opens_one() {
     let setup =
         |number| Request::Event(Event::Setup { switchover: SwitchoverCode::CLEARING, number });
     let mut table = [Call { last: 65_534, ..idle(7) }];
-    assert_eq!(meet(&mut table, 7, setup(1)).answer.number(), 0);
+    assert_eq!(meet(Node::Source, &mut table, 7, setup(1)).answer.number(), 0);
     assert_eq!(table[0].to_string(), "7 1 2 6 1 65535 65535 1");
     assert_eq!(answer(&table, 7, setup(2)), 108);
     let mut table = [call(7, State::SoftRerouteTriggered { incumbent: 1 }, 65_534)];
-    assert_eq!(meet(&mut table, 7, PATH_FOUND).answer.number(), 0);
+    assert_eq!(meet(Node::Source, &mut table, 7, PATH_FOUND).answer.number(), 0);
     assert_eq!(table[0].to_string(), "7 1 2 5 1 65535 65535 0");
 }
 
@@ -251,7 +259,7 @@ fn first_check_that_applies_is_given() {
     // 106 before 107 and 108.
     assert_eq!(answer(&full, 3, CONNECT_9), 106);
     assert_eq!(answer(&[spent], 7, PATH_FOUND), 106);
-    assert_eq!(answer(&[asymmetric], 7, Request::Event(setup)), 106);
+    assert_eq!(answer_at(Node::Source, &[asymmetric], 7, Request::Event(setup)), 106);
     assert_eq!(answer(&[spent], 7, Request::Event(setup)), 108);
     assert_eq!(answer(&full, 3, RELEASE_9), 107);
 }

@@ -3,7 +3,7 @@
 use crate::bench_run::{hard_part, soft_part, symmetric_part, Step, SERVICES};
 use crate::call::{Call, Services, Soft, State};
 use crate::table::{meet, Request};
-use crate::vocabulary::{Event, SILENT};
+use crate::vocabulary::{Event, Node, SILENT};
 use crate::words::SignalWords;
 
 const OPENING: Request = Request::Opening(Some(SERVICES));
@@ -22,7 +22,7 @@ fn others(table: &[Call], place: usize) -> Vec<Call> {
 /// Asks under key 7, whose record is at that place; every other record stays as it was.
 fn ask(table: &mut [Call], place: usize, request: Request) -> (u8, String, String) {
     let before = others(table, place);
-    let reply = meet(table, 7, request);
+    let reply = meet(Node::Source, table, 7, request);
     assert_eq!(others(table, place), before, "{request:?}");
     let signals = SignalWords(&reply.signals).to_string();
     (reply.answer.number(), table[place].to_string(), signals)
@@ -35,7 +35,7 @@ fn expected(answer: u8, record: &str, signals: &str) -> (u8, String, String) {
 fn run(table: &mut [Call], place: usize, steps: &[Step]) {
     for &(event, answer, record, signals) in steps {
         let shown = ask(table, place, Request::Event(event));
-        assert_eq!(shown, expected(answer, record, signals), "{event}");
+        assert_eq!(shown, expected(answer, record, signals), "{event:?}");
     }
 }
 
@@ -67,11 +67,11 @@ fn run_beside_other_calls_in_every_place() {
 #[test]
 fn opening_takes_the_lowest_empty_record() {
     let mut table = [idle(1), Call::EMPTY, idle(2), Call::EMPTY];
-    assert_eq!(meet(&mut table, 7, OPENING).answer.number(), 0);
+    assert_eq!(meet(Node::Source, &mut table, 7, OPENING).answer.number(), 0);
     assert_eq!(table.map(|call| call.key), [1, 7, 2, 0]);
-    assert_eq!(meet(&mut table, 8, OPENING).answer.number(), 0);
+    assert_eq!(meet(Node::Source, &mut table, 8, OPENING).answer.number(), 0);
     assert_eq!(table.map(|call| call.key), [1, 7, 2, 8]);
-    assert_eq!(meet(&mut table, 9, OPENING).answer.number(), 104);
+    assert_eq!(meet(Node::Source, &mut table, 9, OPENING).answer.number(), 104);
     assert_eq!(table.map(|call| call.key), [1, 7, 2, 8]);
 }
 
@@ -80,9 +80,9 @@ fn opening_takes_the_lowest_empty_record() {
 fn emptied_record_is_used_again_under_the_same_key() {
     let old = Call { last: 40, remote: 50, ..idle(7) };
     let mut table = [idle(1), old, Call::EMPTY];
-    let ended = meet(&mut table, 7, Request::Event(Event::CallingRelease { cause: None }));
+    let ended = meet(Node::Source, &mut table, 7, Request::Event(Event::FromParty { cause: None }));
     assert_eq!((ended.answer.number(), table), (0, [idle(1), Call::EMPTY, Call::EMPTY]));
-    let opened = meet(&mut table, 7, Request::Opening(None));
+    let opened = meet(Node::Source, &mut table, 7, Request::Opening(None));
     assert_eq!((opened.answer.number(), opened.signals), (0, SILENT));
     assert_eq!(table, [idle(1), idle(7), Call::EMPTY]);
 }
@@ -100,7 +100,7 @@ fn services_are_those_named() {
         (Some(SERVICES), "7 1 2 1 1 0 1 0"),
     ] {
         let mut table = [Call::EMPTY];
-        assert_eq!(meet(&mut table, 7, Request::Opening(named)).answer.number(), 0);
+        assert_eq!(meet(Node::Source, &mut table, 7, Request::Opening(named)).answer.number(), 0);
         assert_eq!(table[0].to_string(), record);
     }
 }

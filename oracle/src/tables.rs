@@ -1,4 +1,5 @@
-//! Cases over a whole table, in the form of docs/TABLES.md, read, carried out and printed.
+//! Cases over a whole table of an end, in the form of docs/TABLES.md, read, carried out and
+//! printed.
 
 use std::io::{BufRead, Read, Result, Write};
 
@@ -6,6 +7,7 @@ use crate::call::{Call, Soft, State};
 use crate::cases::{octets, print_each};
 use crate::event_record::{decode, flag, EventRecord};
 use crate::table;
+use crate::vocabulary::Node;
 use crate::words::SignalWords;
 
 pub const RECORD_OCTETS: usize = 20;
@@ -20,17 +22,18 @@ struct Case {
 }
 
 /// Prints the answer, the signals and the table after each case; a `bad` one ends the run.
-pub fn print(cases: impl BufRead, out: &mut impl Write) -> Result<()> {
+pub fn print(node: Node, cases: impl BufRead, out: &mut impl Write) -> Result<()> {
     let mut counted: u64 = 0;
+    let case_after = |first, input: &mut _| case_after(node, first, input);
     print_each(cases, out, case_after, |case, out| {
         counted += 1;
-        print_case(counted, case, out)
+        print_case(node, counted, case, out)
     })
 }
 
-fn print_case(number: u64, case: Case, out: &mut impl Write) -> Result<()> {
+fn print_case(node: Node, number: u64, case: Case, out: &mut impl Write) -> Result<()> {
     let Case { mut table, event } = case;
-    let reply = table::meet(&mut table, event.key, event.request);
+    let reply = table::meet(node, &mut table, event.key, event.request);
     let (answer, signals) = (reply.answer.number(), SignalWords(&reply.signals));
     writeln!(out, "case {number} answer {answer} n {} {signals}", table.len())?;
     for call in &table {
@@ -40,7 +43,7 @@ fn print_case(number: u64, case: Case, out: &mut impl Write) -> Result<()> {
 }
 
 /// The case whose count begins with that octet, or nothing where it is `bad`.
-fn case_after(first: u8, input: &mut impl Read) -> Result<Option<Case>> {
+fn case_after(node: Node, first: u8, input: &mut impl Read) -> Result<Option<Case>> {
     let Some([second]) = octets(input)? else { return Ok(None) };
     let count = u16::from_be_bytes([first, second]);
     if count > MOST_RECORDS_OF_A_CASE {
@@ -53,7 +56,7 @@ fn case_after(first: u8, input: &mut impl Read) -> Result<Option<Case>> {
             None => return Ok(None),
         }
     }
-    let event = octets(input)?.and_then(|octets| decode(&octets));
+    let event = octets(input)?.and_then(|octets| decode(node, &octets));
     Ok(event.map(|event| Case { table, event }))
 }
 

@@ -1,4 +1,5 @@
-//! The trace (01, "The trace"): event records over a table of 64, and a line of numbers for each.
+//! The trace of an end (01, "The trace"): event records over a table of 64, and a line of numbers
+//! for each.
 
 use std::io::{Read, Result, Write};
 
@@ -7,13 +8,14 @@ use crate::event_record::decode;
 use crate::number_line::{Count, NumberLine};
 use crate::record_input::{for_each, End};
 use crate::trace_table::TraceTable;
+use crate::vocabulary::Node;
 
 /// "The first line is always those fixed bytes"
 const FIRST_LINE: &[u8] = b"line answer state incumbent rerouting number\n";
 
-pub fn print(input: impl Read, out: &mut impl Write) -> Result<()> {
+pub fn print(node: Node, input: impl Read, out: &mut impl Write) -> Result<()> {
     let mut line = NumberLine::EMPTY;
-    print_outcomes(FIRST_LINE, input, out, |count, outcome, out| {
+    print_outcomes(node, FIRST_LINE, input, out, |count, outcome, out| {
         put_numbers(&mut line, count, outcome, b'\n');
         out.write_all(line.octets())
     })
@@ -22,15 +24,16 @@ pub fn print(input: impl Read, out: &mut impl Write) -> Result<()> {
 /// The first line, then a line for each record, printed from the count and its outcome; a bad
 /// record, or one cut short, prints `bad` and ends the run.
 pub fn print_outcomes<Output: Write>(
+    node: Node,
     first_line: &[u8],
     mut input: impl Read,
     out: &mut Output,
     mut print_line: impl FnMut(&Count, &Outcome, &mut Output) -> Result<()>,
 ) -> Result<()> {
     out.write_all(first_line)?;
-    let mut table = TraceTable::EMPTY;
+    let mut table = TraceTable::empty(node);
     let mut count = Count::ZERO;
-    let end = for_each(&mut input, out, |octets, out| match decode(octets) {
+    let end = for_each(&mut input, out, |octets, out| match decode(node, octets) {
         None => Ok(false),
         Some(asked) => {
             count.next();

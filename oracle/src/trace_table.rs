@@ -1,4 +1,4 @@
-//! The table of the trace: 64 records, empty at the start, with their keys beside them.
+//! The table of an end's trace: 64 records, empty at the start, with their keys beside them.
 //!
 //! It answers as `table::meet` does over the same records, but for 101: openings and events alone
 //! fill it, so that it is fit at every event, and no check of that is made.
@@ -6,7 +6,7 @@
 use crate::call::{Call, Outcome, Services};
 use crate::event_record::EventRecord;
 use crate::table::Request;
-use crate::vocabulary::{Answer, Event};
+use crate::vocabulary::{Answer, Event, Node};
 
 pub const RECORD_COUNT: usize = 64;
 
@@ -14,13 +14,16 @@ pub const RECORD_COUNT: usize = 64;
 const BLOCK: usize = 16;
 
 pub struct TraceTable {
+    node: Node,
     /// The key of each record, so that a search reads nothing else.
     keys: [u32; RECORD_COUNT],
     calls: [Call; RECORD_COUNT],
 }
 
 impl TraceTable {
-    pub const EMPTY: Self = Self { keys: [0; RECORD_COUNT], calls: [Call::EMPTY; RECORD_COUNT] };
+    pub fn empty(node: Node) -> Self {
+        Self { node, keys: [0; RECORD_COUNT], calls: [Call::EMPTY; RECORD_COUNT] }
+    }
 
     /// The answer, the signals, and the call with that key after the event, or an empty record
     /// where there is none (decision 25).
@@ -65,7 +68,7 @@ impl TraceTable {
         match self.place_of(key) {
             None => Call::EMPTY.refused(Answer::KeyNotOnRecord),
             Some(place) => {
-                let after = self.calls[place].after(event);
+                let after = self.calls[place].after(self.node, event);
                 self.keys[place] = after.call.key;
                 self.calls[place] = after.call;
                 after

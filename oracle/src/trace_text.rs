@@ -5,6 +5,7 @@
 use std::cell::RefCell;
 use std::io::{BufWriter, Read, Result, Write};
 
+use crate::vocabulary::Node;
 use crate::{list, script, trace, watch};
 
 const OPEN_7: [u8; 16] = [0, 1, 1, 2, 0, 0, 0, 7, 0, 0, 0, 0, 0, 0, 0, 0];
@@ -14,13 +15,13 @@ const FIRST_WATCHED: &str = "line answer state incumbent rerouting number last s
 
 fn traced(input: impl Read) -> String {
     let mut out = Vec::new();
-    trace::print(input, &mut out).expect("a vector takes every byte");
+    trace::print(Node::Source, input, &mut out).expect("a vector takes every byte");
     String::from_utf8(out).expect("lines are ASCII")
 }
 
 fn watched(input: impl Read) -> String {
     let mut out = Vec::new();
-    watch::print(input, &mut out).expect("a vector takes every byte");
+    watch::print(Node::Source, input, &mut out).expect("a vector takes every byte");
     String::from_utf8(out).expect("lines are ASCII")
 }
 
@@ -167,15 +168,15 @@ fn whole_records_are_answered_before_the_next_read() {
     let input = [OPEN_7, TRIGGER_7, OPEN_7, TRIGGER_7].concat();
     let lines = |sent: &[u8]| sent.iter().filter(|&&octet| octet == b'\n').count();
     let trace = sent_at_each_read(&input, 24, lines, |mut input, mut out| {
-        trace::print(&mut input, &mut out).expect("a vector takes every byte");
+        trace::print(Node::Source, &mut input, &mut out).expect("a vector takes every byte");
     });
     assert_eq!(trace, [1, 2, 4, 5]);
     let watch = sent_at_each_read(&input, 24, lines, |mut input, mut out| {
-        watch::print(&mut input, &mut out).expect("a vector takes every byte");
+        watch::print(Node::Source, &mut input, &mut out).expect("a vector takes every byte");
     });
     assert_eq!(watch, [1, 2, 4, 5]);
     let list = sent_at_each_read(&input, 24, lines, |mut input, mut out| {
-        list::print(&mut input, &mut out).expect("a vector takes every byte");
+        list::print(Node::Source, &mut input, &mut out).expect("a vector takes every byte");
     });
     assert_eq!(list, [0, 1, 3, 4]);
 }
@@ -185,7 +186,7 @@ fn whole_records_are_answered_before_the_next_read() {
 fn whole_lines_are_written_before_the_next_read() {
     let script =
         sent_at_each_read(&b"trigger 7\n".repeat(4), 15, <[u8]>::len, |mut input, mut out| {
-            script::print(&mut input, &mut out).expect("a vector takes every byte");
+            script::print(Node::Source, &mut input, &mut out).expect("a vector takes every byte");
         });
     assert_eq!(script, [0, 16, 48, 64]);
 }

@@ -1,12 +1,12 @@
-//! A call that was opened without named services has hard on and soft asymmetric (02, Ask 1, which
-//! amends 01's sentence on the default). The rows of 01 say what follows: a soft trigger is done, a
-//! setup is without meaning as before, and a lost incumbent is rerouted hard.
+//! At the source, a call that was opened without named services has hard on and soft asymmetric
+//! (02, Ask 1, which amends 01's sentence on the default). The rows of 01 say what follows: a soft
+//! trigger is done, a setup is without meaning as before, and a lost incumbent is rerouted hard.
 
 use crate::bench_run::Step;
 use crate::call::{Call, Services, Soft};
 use crate::event_record::decode;
 use crate::table::{meet, Request};
-use crate::vocabulary::{CalledRelease, Crankback, Event, Policy, SwitchoverCode, SILENT};
+use crate::vocabulary::{Crankback, DomainRelease, Event, Node, Policy, SwitchoverCode, SILENT};
 use crate::words::SignalWords;
 
 fn connect(connection: u16, policy: Policy) -> Event {
@@ -15,13 +15,13 @@ fn connect(connection: u16, policy: Policy) -> Event {
 
 /// A release from the called side without a cause.
 fn called(connection: u16) -> Event {
-    Event::CalledRelease(CalledRelease { connection, cause: None, crankback: Crankback::None })
+    Event::FromDomain(DomainRelease { connection, cause: None, crankback: Crankback::None })
 }
 
 /// A table of one record, in which key 7 was opened.
 fn opened(named: Option<Services>) -> [Call; 1] {
     let mut table = [Call::EMPTY];
-    let reply = meet(&mut table, 7, Request::Opening(named));
+    let reply = meet(Node::Source, &mut table, 7, Request::Opening(named));
     assert_eq!((reply.answer.number(), reply.signals), (0, SILENT), "{named:?}");
     table
 }
@@ -32,9 +32,9 @@ fn setups_are_refused(table: &[Call; 1]) {
         for number in [0, 1, u32::MAX] {
             let setup = Event::Setup { switchover, number };
             let mut after = *table;
-            let reply = meet(&mut after, 7, Request::Event(setup));
+            let reply = meet(Node::Source, &mut after, 7, Request::Event(setup));
             let shown = (reply.answer.number(), after, reply.signals);
-            assert_eq!(shown, (106, *table, SILENT), "{} | {setup}", table[0]);
+            assert_eq!(shown, (106, *table, SILENT), "{} | {setup:?}", table[0]);
         }
     }
 }
@@ -44,10 +44,10 @@ fn run(named: Option<Services>, steps: &[Step]) {
     let mut table = opened(named);
     setups_are_refused(&table);
     for &(event, answer, record, signals) in steps {
-        let reply = meet(&mut table, 7, Request::Event(event));
+        let reply = meet(Node::Source, &mut table, 7, Request::Event(event));
         let sent = SignalWords(&reply.signals).to_string();
         let shown = (reply.answer.number(), table[0].to_string(), sent);
-        assert_eq!(shown, (answer, record.to_string(), signals.to_string()), "{event}");
+        assert_eq!(shown, (answer, record.to_string(), signals.to_string()), "{event:?}");
         setups_are_refused(&table);
     }
 }
@@ -66,9 +66,9 @@ fn byte_1_value_0_means_the_default() {
     for hard in [0, 1, 2, 255] {
         for soft in [0, 1, 2, 3, 255] {
             let octets = [0, 0, hard, soft, 0, 0, 0, 7, 0, 0, 0, 0, 0, 0, 0, 0];
-            let asked = decode(&octets).expect("bytes 2 and 3 are not read");
+            let asked = decode(Node::Source, &octets).expect("bytes 2 and 3 are not read");
             let mut table = [Call::EMPTY];
-            assert_eq!(meet(&mut table, asked.key, asked.request).answer.number(), 0);
+            assert_eq!(meet(Node::Source, &mut table, asked.key, asked.request).answer.number(), 0);
             assert_eq!(table, opened(None), "{octets:?}");
         }
     }

@@ -5,6 +5,40 @@
 //! amends 01; a bare number such as 6.2.4.2 is a section of af-cs-0173.000, `D17` an item of its
 //! Annex D; `decision 5` is a numbered decision on a point that those leave open.
 
+/// The two ends of a call's rerouting domain: the control of each has a table of its own (02, Ask
+/// 2).
+#[derive(Clone, Copy, Debug, PartialEq, Eq)]
+pub enum Node {
+    /// Towards the calling side (6.2).
+    Source,
+    /// Towards the called side (6.3).
+    Destination,
+}
+
+/// The side that a release comes from.
+#[derive(Clone, Copy, Debug, PartialEq, Eq)]
+pub enum Side {
+    Calling,
+    Called,
+}
+
+impl Node {
+    /// The side of the node's own party. Across the domain lies the other one.
+    pub fn party(self) -> Side {
+        match self {
+            Node::Source => Side::Calling,
+            Node::Destination => Side::Called,
+        }
+    }
+
+    pub fn domain(self) -> Side {
+        match self {
+            Node::Source => Side::Called,
+            Node::Destination => Side::Calling,
+        }
+    }
+}
+
 /// A Rerouting release cause, by its number.
 #[derive(Clone, Copy, Debug, PartialEq, Eq)]
 pub struct ReroutingCause(pub u8);
@@ -41,7 +75,8 @@ pub enum CauseCode {
     CallRejected,
 }
 
-/// The kinds of decision 16, in the order in which 01 fills the places.
+/// The kinds of decision 16, in the order in which 01 fills the places, and behind them the one
+/// that the destination alone sends.
 #[derive(Clone, Copy, Debug, PartialEq, Eq)]
 pub enum SignalKind {
     None,
@@ -54,13 +89,16 @@ pub enum SignalKind {
     Setup,
     Connect,
     Reject,
+    /// In the place of the calling-side release (decision 63).
+    ReleaseCalled,
 }
 
 /// One of the four signals of an event.
 #[derive(Clone, Copy, Debug, PartialEq, Eq)]
 pub struct Signal {
     pub kind: SignalKind,
-    /// 0 for the calling side, the timer and a rejected setup (01, "Signals").
+    /// 0 for the calling or called side, the timer and a rejected setup (01, "Signals"; decision
+    /// 63).
     pub connection: u16,
     pub rerouting_cause: SentCause,
     pub cause_code: CauseCode,
@@ -102,6 +140,10 @@ impl Signal {
         Self { rerouting_cause, ..Self::plain(SignalKind::ReleaseCalling, 0) }
     }
 
+    pub fn release_called(rerouting_cause: SentCause) -> Self {
+        Self { rerouting_cause, ..Self::plain(SignalKind::ReleaseCalled, 0) }
+    }
+
     pub fn release_incumbent(connection: u16, rerouting_cause: SentCause) -> Self {
         Self { rerouting_cause, ..Self::plain(SignalKind::ReleaseIncumbent, connection) }
     }
@@ -110,7 +152,13 @@ impl Signal {
         Self { rerouting_cause, ..Self::plain(SignalKind::ReleaseRerouting, connection) }
     }
 
-    /// Cause code #21, with the Rerouting cause absent beside it (6.2.6.2; decision 12).
+    /// Cause code #21, with the Rerouting cause absent beside it (6.3.5.4; decisions 12 and 72).
+    pub fn incumbent_rejected(connection: u16) -> Self {
+        let cause_code = CauseCode::CallRejected;
+        Self { cause_code, ..Self::plain(SignalKind::ReleaseIncumbent, connection) }
+    }
+
+    /// Cause code #21, with the Rerouting cause absent beside it (6.2.6.2, 6.3.7.1; decision 12).
     pub fn rerouting_rejected(connection: u16) -> Self {
         let cause_code = CauseCode::CallRejected;
         Self { cause_code, ..Self::plain(SignalKind::ReleaseRerouting, connection) }
@@ -126,9 +174,14 @@ pub fn one(first: Signal) -> Signals {
     [first, Signal::NONE, Signal::NONE, Signal::NONE]
 }
 
-/// No event fills more places than two (decision 18).
+/// At the source no event fills more places than two (decision 18).
 pub fn two(first: Signal, second: Signal) -> Signals {
     [first, second, Signal::NONE, Signal::NONE]
+}
+
+/// At the destination no event fills more places than three (decision 63).
+pub fn three(first: Signal, second: Signal, third: Signal) -> Signals {
+    [first, second, third, Signal::NONE]
 }
 
 /// What an event is answered (01, "Numbers of refusal"): by the table the numbers below 106, by the
@@ -188,9 +241,10 @@ pub enum Crankback {
     NoneFound,
 }
 
-/// A release from the called side (01, "Release from the called side").
+/// A release from across the domain, for a connection: from the called side at the source (01,
+/// "Release from the called side"), from the calling side at the destination (6.3.4).
 #[derive(Clone, Copy, Debug, PartialEq, Eq)]
-pub struct CalledRelease {
+pub struct DomainRelease {
     pub connection: u16,
     pub cause: Option<ReroutingCause>,
     pub crankback: Crankback,
@@ -202,10 +256,20 @@ pub enum Event {
     Trigger,
     PathFound,
     NoPath,
-    Connect { connection: u16, policy: Policy },
-    Setup { switchover: SwitchoverCode, number: u32 },
-    CallingRelease { cause: Option<ReroutingCause> },
-    CalledRelease(CalledRelease),
+    Connect {
+        connection: u16,
+        policy: Policy,
+    },
+    Setup {
+        switchover: SwitchoverCode,
+        number: u32,
+    },
+    /// A release from the node's own party: from the calling side at the source, from the called
+    /// side at the destination.
+    FromParty {
+        cause: Option<ReroutingCause>,
+    },
+    FromDomain(DomainRelease),
     Ready,
     TimerExpiry,
 }

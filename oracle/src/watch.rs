@@ -5,13 +5,14 @@ use std::io::{Read, Result, Write};
 
 use crate::number_line::NumberLine;
 use crate::trace::{print_outcomes, put_numbers};
+use crate::vocabulary::Node;
 use crate::words::SignalWords;
 
 const FIRST_LINE: &[u8] = b"line answer state incumbent rerouting number last signals\n";
 
-pub fn print(input: impl Read, out: &mut impl Write) -> Result<()> {
+pub fn print(node: Node, input: impl Read, out: &mut impl Write) -> Result<()> {
     let mut line = NumberLine::EMPTY;
-    print_outcomes(FIRST_LINE, input, out, |count, outcome, out| {
+    print_outcomes(node, FIRST_LINE, input, out, |count, outcome, out| {
         put_numbers(&mut line, count, outcome, b' ');
         line.put_number(outcome.call.last, b' ');
         out.write_all(line.octets())?;

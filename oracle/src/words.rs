@@ -4,8 +4,8 @@ use std::fmt::{Display, Formatter, Result};
 
 use crate::call::{Call, Services, Soft};
 use crate::vocabulary::{
-    CauseCode, Crankback, Event, Policy, ReroutingCause, SentCause, Signal, SignalKind, Signals,
-    SwitchoverCode,
+    CauseCode, Crankback, Event, Node, Policy, ReroutingCause, SentCause, Side, Signal, SignalKind,
+    Signals, SwitchoverCode,
 };
 
 /// `key hard soft state incumbent rerouting last remote`, 0 for a connection not held.
@@ -30,20 +30,46 @@ impl Display for Services {
     }
 }
 
-impl Display for Event {
+impl Display for Side {
     fn fmt(&self, out: &mut Formatter<'_>) -> Result {
         match self {
+            Side::Calling => write!(out, "calling"),
+            Side::Called => write!(out, "called"),
+        }
+    }
+}
+
+/// The name of a program of that end.
+#[derive(Clone, Copy, Debug)]
+pub struct ProgramName(pub Node, pub &'static str);
+
+impl Display for ProgramName {
+    fn fmt(&self, out: &mut Formatter<'_>) -> Result {
+        match self {
+            Self(Node::Source, name) => write!(out, "{name}"),
+            Self(Node::Destination, name) => write!(out, "destination_{name}"),
+        }
+    }
+}
+
+/// An event as it meets that end: a release is named by the side that it comes from.
+pub struct EventWords(pub Node, pub Event);
+
+impl Display for EventWords {
+    fn fmt(&self, out: &mut Formatter<'_>) -> Result {
+        let Self(node, event) = self;
+        match event {
             Event::Trigger => write!(out, "trigger"),
             Event::PathFound => write!(out, "path"),
             Event::NoPath => write!(out, "nopath"),
             Event::Connect { connection, policy } => write!(out, "connect {connection} {policy}"),
             Event::Setup { switchover, number } => write!(out, "setup {switchover} {number}"),
-            Event::CallingRelease { cause } => {
-                write!(out, "calling")?;
+            Event::FromParty { cause } => {
+                write!(out, "{}", node.party())?;
                 write_cause(out, *cause)
             }
-            Event::CalledRelease(release) => {
-                write!(out, "called {}", release.connection)?;
+            Event::FromDomain(release) => {
+                write!(out, "{} {}", node.domain(), release.connection)?;
                 write_cause(out, release.cause)?;
                 write!(out, "{}", release.crankback)
             }
@@ -104,6 +130,7 @@ impl Display for Signal {
             SignalKind::Setup => write!(out, "setup {connection}")?,
             SignalKind::Connect => write!(out, "connect {connection}")?,
             SignalKind::Reject => write!(out, "reject")?,
+            SignalKind::ReleaseCalled => write!(out, "release called")?,
         }
         match self.rerouting_cause {
             SentCause::Absent => {}

@@ -9,6 +9,7 @@ use mathlib.Core.Path.{_∙_, _≡_, ap, refl, subst, sym}
 use lib.Dec.{eqb, ltb}
 use lib.ListN.{length}
 use borrow.Author.Tests.{eqb-false, eqb-true, le-ltb, lt-ltb, ltb-false, ltb-true, ne-eqb}
+use Rattle.signal.proofs.Claims.{services-exactly}
 use Rattle.signal.proofs.Counting.{count-append, one-most, one-same}
 use Rattle.signal.specs.Causes.{cause}
 use Rattle.signal.specs.Counting.{count, endedSent, named, ofKind}
@@ -36,6 +37,16 @@ use Rattle.call.specs.Record.{callDone, emptied, lastAfter, lastGiven, m
 use Rattle.call.specs.declared.Call.{Call}
 use Rattle.call.specs.declared.Outcome.{Outcome}
 use Rattle.call.specs.Claims as claim
+
+-- ---- openings, and what is returned
+pub opens-with-one : claim.OpensWithOne
+opens-with-one key wanted o r = rw r (refl, (refl, (refl, (refl, (refl, refl)))))
+
+pub opens-with-services : claim.OpensWithServices
+opens-with-services key wanted o r = rw r (services-exactly wanted _ _ .1 (refl, refl))
+
+pub handle-is-returned : claim.HandleIsReturned
+handle-is-returned node c e = refl
 
 -- ---- the first of three checks
 module _ (a : ℕ) where
@@ -388,3 +399,34 @@ module _ (half : Half) (L : claim.Lawful half) where
         within = stays-within c e sound;
         differ = λ n. omega (arith, balance c e n, once c e sound n);
       })
+
+  -- all of them
+  pub claims : claim.EventClaims half
+  claims =
+      record {
+        refusalLeavesRecord = refusal-leaves-record;
+        given106 = given-106;
+        given107 = given-107;
+        given108 = given-108;
+        given0 = given-0;
+        signalsInOrder = signals-in-order;
+        fewSignals = few-signals;
+        timerStarts = timer-starts;
+        timerStops = timer-stops;
+        switchNamesIncumbent = switch-names-incumbent;
+        signalsNameTheirOwn = signals-name-their-own;
+        partyTold = party-told;
+        causesAsReceived = causes-as-received;
+        rejectedByFirstRow = rejected-by-first-row;
+        rejectedSetupLeavesRecord = rejected-setup-leaves-record;
+        code21Exactly = code-21-exactly;
+        endedIsEmptied = ended-is-emptied;
+        keyAndServicesStay = key-and-services-stay;
+        remoteByAcceptedSetup = remote-by-accepted-setup;
+        remoteGrows = remote-grows;
+        lastByOne = last-by-one;
+        balances = balances;
+        heldOrEndedOnce = held-or-ended-once;
+        receivedNotReleased = received-not-released;
+        staysSound = stays-sound;
+      }

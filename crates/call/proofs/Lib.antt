@@ -1,4 +1,6 @@
 pub mod Claims
-pub mod Source
 pub mod Events
+pub mod Source
+pub mod Destination
+pub mod Ends
 pub mod Wrong

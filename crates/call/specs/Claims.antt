@@ -1,8 +1,9 @@
 -- The claims on one event at one call, at either end. "01" is the scope document, "02" the follow-up requests, a demand one of the three in
 -- README.md, "decision N" a point of docs/DECISIONS.md. Each stands under the requirement that it answers, cited by place and said again in
 -- our words; none mentions a row or a case. They speak of every record, fit or not, and of every event, and of whatever a method returns
--- that does what its half of the control does: `Returned` is the contract of the source's `Call::handle`, and of the event's own method.
--- Proofs, once for any half that keeps the laws: proofs/Claims.antt; for the source: proofs/Source.antt. Assumes nothing.
+-- that does what its half of the control does: `Returned` is the contract of `Call::handle`, and of the event's own method at the end.
+-- Proofs, once for any half that keeps the laws: proofs/Claims.antt; for the ends: proofs/Source.antt, proofs/Destination.antt. Assumes
+-- nothing.
 use Prim.Native.Nat.{_+_, _<_, _≤_, ℕ}
 use mathlib.Core.Bool.{cond, false, not, true}
 use mathlib.Core.List.{List, [], _++_, _∷_}
@@ -21,6 +22,7 @@ use Rattle.signal.specs.declared.Switchover.{Switchover}
 use Rattle.signal.specs.declared.Wanted.{Wanted}
 use Rattle.events.specs.Events.{isExpiry, receivedIn, reported}
 use Rattle.events.specs.declared.Event.{Event}
+use Rattle.events.specs.declared.Node.{Node}
 use Rattle.rows.specs.Cases.{Standing}
 use Rattle.rows.specs.Checks.{AllAre, AllIncumbent, Nones, asksNumber, code21Wanted, namesNotHeld, partyWanted, rejectionWanted}
 use Rattle.rows.specs.Checks.{startsWanted, stopsWanted, storedWanted}
@@ -28,7 +30,7 @@ use Rattle.rows.specs.Effects.{partyKind}
 use Rattle.rows.specs.Meaning.{Kept, Obeys}
 use Rattle.rows.specs.States.{heldIn, incumbentOf, isHard, isNull, reroutingOf}
 use Rattle.rows.specs.declared.State.the-variants.{Idle}
-use Rattle.call.specs.Events.{Half, eventOf, handledAt, sourceHalf}
+use Rattle.call.specs.Events.{Half, destinationHalf, halfOf, handledAt, sourceHalf}
 use Rattle.call.specs.Record.{emptied, openedFor, standing}
 use Rattle.call.specs.declared.Call.{Call}
 use Rattle.call.specs.declared.Outcome.{Outcome}
@@ -244,15 +246,47 @@ module _ (half : Half) where
   abbrev pub StaysSound : Type 0
   StaysSound = Always (λ c e o. Sound c → Sound (o .call))
 
--- ---- at the source alone
+-- all of them, of one half
+pub record EventClaims (half : Half) : Type 0 where
+  pub refusalLeavesRecord : RefusalLeavesRecord half
+  pub given106 : Given106 half
+  pub given107 : Given107 half
+  pub given108 : Given108 half
+  pub given0 : Given0 half
+  pub signalsInOrder : SignalsInOrder half
+  pub fewSignals : FewSignals half
+  pub timerStarts : TimerStarts half
+  pub timerStops : TimerStops half
+  pub switchNamesIncumbent : SwitchNamesIncumbent half
+  pub signalsNameTheirOwn : SignalsNameTheirOwn half
+  pub partyTold : PartyTold half
+  pub causesAsReceived : CausesAsReceived half
+  pub rejectedByFirstRow : RejectedByFirstRow half
+  pub rejectedSetupLeavesRecord : RejectedSetupLeavesRecord half
+  pub code21Exactly : Code21Exactly half
+  pub endedIsEmptied : EndedIsEmptied half
+  pub keyAndServicesStay : KeyAndServicesStay half
+  pub remoteByAcceptedSetup : RemoteByAcceptedSetup half
+  pub remoteGrows : RemoteGrows half
+  pub lastByOne : LastByOne half
+  pub balances : Balances half
+  pub heldOrEndedOnce : HeldOrEndedOnce half
+  pub receivedNotReleased : ReceivedNotReleased half
+  pub staysSound : StaysSound half
+
 -- What `Call::handle` returns by its contract, at every record and event, is what the claims speak of.
 abbrev pub HandleIsReturned : Type 0
-HandleIsReturned = (c : Call) (e : Event) → Returned sourceHalf c e (eventOf c e)
+HandleIsReturned = (node : Node) (c : Call) (e : Event) → Returned (halfOf node) c e (handledAt (halfOf node) c e)
 
--- Decision 18: no event fills more than two of the four places.
+-- ---- at one end alone
+-- Decision 18: at the source no event fills more than two of the four places.
 abbrev pub TwoAtMost : Type 0
 TwoAtMost = Always sourceHalf (λ c e o. 2 ≤ length (ofKind NoSignal (o .signals)))
 
--- Decision 17: a connect names the rerouting connection as held after, too.
+-- Decision 17: at the source a connect names the rerouting connection as held after, too.
 abbrev pub ConnectStaysRerouting : Type 0
 ConnectStaysRerouting = Always sourceHalf (λ c e o. AllAre (reroutingOf (o .call .state)) (named (ofKind ConnectRequest (o .signals))))
+
+-- Decision 63: at the destination no event fills more than three.
+abbrev pub ThreeAtMost : Type 0
+ThreeAtMost = Always destinationHalf (λ c e o. 1 ≤ length (ofKind NoSignal (o .signals)))

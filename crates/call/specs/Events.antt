@@ -1,11 +1,15 @@
--- What an event does to a record (01, "Events and rows"): at either end, and at the source. Assumes nothing.
+-- What an event does to a record (01, "Events and rows"; 02, Ask 2), at either end. Assumes nothing.
 use Rattle.events.specs.Events.{numberBrought}
 use Rattle.events.specs.declared.Event.{Event}
+use Rattle.events.specs.declared.Node.{Node}
+use Rattle.events.specs.declared.Node.the-variants.{Destination, Source}
 use Rattle.rows.specs.Cases.{Standing}
 use Rattle.rows.specs.Checks.{Demands}
 use Rattle.rows.specs.declared.Effect.{Effect}
 use Rattle.source_rows.specs.Demands.{sourceDemands}
 use Rattle.source_rows.specs.Rows.{sourceEffect}
+use Rattle.destination_rows.specs.Demands.{destinationDemands}
+use Rattle.destination_rows.specs.Rows.{destinationEffect}
 use Rattle.call.specs.Record.{carriedOut, standing}
 use Rattle.call.specs.declared.Call.{Call}
 use Rattle.call.specs.declared.Outcome.{Outcome}
@@ -19,9 +23,13 @@ pub record Half : Type 0 where
 abbrev pub handledAt : Half → Call → Event → Outcome
 handledAt half c e = carriedOut c (numberBrought e) (half .does (standing c) e)
 
--- the source node's half: the rows of its page
+-- the halves: the rows of each end's page
 abbrev pub sourceHalf : Half
 sourceHalf = record { demands = sourceDemands; does = sourceEffect }
 
-abbrev pub eventOf : Call → Event → Outcome
-eventOf c e = handledAt sourceHalf c e
+abbrev pub destinationHalf : Half
+destinationHalf = record { demands = destinationDemands; does = destinationEffect }
+
+abbrev pub halfOf : Node → Half
+halfOf Source = sourceHalf
+halfOf Destination = destinationHalf

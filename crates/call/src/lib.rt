@@ -1,25 +1,24 @@
-// The record of a call, at either end, and one method for each event of the source node. A method takes the old record and hands back the
-// new one, beside the answer and the four signals of the event.
+// The record of a call, at either end. An event is a method: it takes the old record and hands back the new one, beside the answer and the
+// four signals of the event. Each end has one for each of its events (source_events, destination_events), and `handle` takes an event of
+// any kind.
 //
-// Any record may be given, fit or not: the methods have no `requires`. What an event does stands on the source's page of rows (source_rows)
-// and in the direct code of its rows (source_requests, source_connects, source_setups, source_releases, source_endings); here it is carried
-// out on the record, in one place for all events.
+// Any record may be given, fit or not: the methods have no `requires`. What an event does stands on the page of rows of its end
+// (source_rows, destination_rows) and in the direct code of the rows; here it is carried out on the record, in one place for all events.
+mod destination_events;
+mod source_events;
+
 ghost use mathlib.Core.Bool.{cond};
 ghost use mathlib.Core.Path.{_≡_};
-ghost use Rattle.events.specs.declared.Event.the-variants.{Trigger, PathFound, NoPath, Connect, Setup};
-ghost use Rattle.events.specs.declared.Event.the-variants.{FromParty, FromDomain, Ready, Expiry};
 ghost use Rattle.call.specs.Record.{movedTo, lastGiven, lastAfter, callDone, carriedOut, openedFor};
-ghost use Rattle.call.specs.Events.{eventOf};
+ghost use Rattle.call.specs.Events.{halfOf, handledAt};
 use events::Event;
+use events::Node;
 use rows::Effect;
 use rows::State;
 use signal::Answer;
-use signal::Crankback;
 use signal::Fresh;
-use signal::ReceivedCause;
 use signal::Signal;
 use signal::Soft;
-use signal::Switchover;
 use signal::Wanted;
 
 // The key comes first: 0 marks an empty record.
@@ -116,101 +115,13 @@ impl Call {
         }
     }
 
-    pub fn trigger(self) -> Outcome
-        ensures { λ r. ⌜ r ≡ eventOf self Trigger ⌝ }
+    // One event of any kind, at an end of the call.
+    pub fn handle(self, node: Node, event: Event) -> Outcome
+        ensures { λ r. ⌜ r ≡ handledAt (halfOf node) self event ⌝ }
     {
-        let soft = self.soft;
-        let state = self.state;
-        self.carried(0, source_requests::trigger_row(soft, state))
-    }
-
-    pub fn path_found(self) -> Outcome
-        ensures { λ r. ⌜ r ≡ eventOf self PathFound ⌝ }
-    {
-        let state = self.state;
-        self.carried(0, source_requests::path_row(Fresh::after(self.last), state))
-    }
-
-    pub fn no_path(self) -> Outcome
-        ensures { λ r. ⌜ r ≡ eventOf self NoPath ⌝ }
-    {
-        let state = self.state;
-        self.carried(0, source_requests::no_path_row(state))
-    }
-
-    // `agreed` is local policy's yes.
-    pub fn connect(self, connection: u16, agreed: bool) -> Outcome
-        ensures { λ r. ⌜ r ≡ eventOf self (Connect connection agreed) ⌝ }
-    {
-        let state = self.state;
-        self.carried(0, source_connects::connect_row(connection, agreed, state))
-    }
-
-    pub fn setup(self, code: Switchover, number: u32) -> Outcome
-        ensures { λ r. ⌜ r ≡ eventOf self (Setup code number) ⌝ }
-    {
-        let soft = self.soft;
-        let state = self.state;
-        let next = Fresh::after(self.last);
-        self.carried(
-            number,
-            source_setups::setup_row(soft, code, number, self.remote, next, state),
-        )
-    }
-
-    pub fn ready(self) -> Outcome
-        ensures { λ r. ⌜ r ≡ eventOf self Ready ⌝ }
-    {
-        let state = self.state;
-        self.carried(0, source_setups::ready_row(state))
-    }
-
-    pub fn expiry(self) -> Outcome
-        ensures { λ r. ⌜ r ≡ eventOf self Expiry ⌝ }
-    {
-        let state = self.state;
-        self.carried(0, source_endings::expiry_row(state))
-    }
-
-    pub fn calling_release(self, cause: ReceivedCause) -> Outcome
-        ensures { λ r. ⌜ r ≡ eventOf self (FromParty cause) ⌝ }
-    {
-        let state = self.state;
-        self.carried(0, source_endings::calling_row(self.hard, cause, state))
-    }
-
-    pub fn called_release(
-        self,
-        connection: u16,
-        cause: ReceivedCause,
-        crankback: Crankback,
-    ) -> Outcome
-        ensures { λ r. ⌜ r ≡ eventOf self (FromDomain connection cause crankback) ⌝ }
-    {
-        let state = self.state;
-        let next = Fresh::after(self.last);
-        self.carried(
-            0,
-            source_releases::called_row(self.hard, connection, cause, crankback, next, state),
-        )
-    }
-
-    // One event of any kind.
-    pub fn handle(self, event: Event) -> Outcome
-        ensures { λ r. ⌜ r ≡ eventOf self event ⌝ }
-    {
-        match event {
-            Event::Trigger => self.trigger(),
-            Event::PathFound => self.path_found(),
-            Event::NoPath => self.no_path(),
-            Event::Connect(connection, agreed) => self.connect(connection, agreed),
-            Event::Setup(code, number) => self.setup(code, number),
-            Event::FromParty(cause) => self.calling_release(cause),
-            Event::FromDomain(connection, cause, crankback) => {
-                self.called_release(connection, cause, crankback)
-            }
-            Event::Ready => self.ready(),
-            Event::Expiry => self.expiry(),
+        match node {
+            Node::Source => self.at_source(event),
+            Node::Destination => self.at_destination(event),
         }
     }
 }

@@ -9,7 +9,7 @@ use lib.ListN.{length, take, length-append}
 use lib.Seq.{take-append-seam}
 use Rattle.signal.specs.declared.Kind.{Kind}
 use Rattle.signal.specs.declared.Kind.the-variants.{NoSignal, TimerStart, TimerStop, Switch, CallingRelease, IncumbentRelease}
-use Rattle.signal.specs.declared.Kind.the-variants.{ReroutingRelease, SetupRequest, ConnectRequest, Rejection}
+use Rattle.signal.specs.declared.Kind.the-variants.{ReroutingRelease, SetupRequest, ConnectRequest, Rejection, CalledRelease}
 use Rattle.signal.specs.declared.SentCause.{SentCause}
 use Rattle.signal.specs.declared.SentCause.the-variants.{Absent}
 use Rattle.cause_element.specs.declared.Names.{Names}
@@ -50,6 +50,7 @@ named-release ReroutingRelease cause h = refl
 named-release SetupRequest cause h = absurd (false≢true h)
 named-release ConnectRequest cause h = absurd (false≢true h)
 named-release Rejection cause h = absurd (false≢true h)
+named-release CalledRelease cause h = refl
 
 named-other : (k : Kind) (cause : SentCause) → (claim.isReleaseKind k ≡ false) ⊎ (cause ≡ Absent) → namedByKind k cause ≡ Neither
 named-other k cause (inl other) = by-kind k other
@@ -65,6 +66,7 @@ named-other k cause (inl other) = by-kind k other
     by-kind SetupRequest h = refl
     by-kind ConnectRequest h = refl
     by-kind Rejection h = refl
+    by-kind CalledRelease h = absurd (true≢false h)
 named-other k cause (inr absent) = by-kind k
   where
     by-kind : (k : Kind) → namedByKind k cause ≡ Neither
@@ -78,6 +80,7 @@ named-other k cause (inr absent) = by-kind k
     by-kind SetupRequest = refl
     by-kind ConnectRequest = refl
     by-kind Rejection = refl
+    by-kind CalledRelease = ap namedByCause absent
 
 pub sends-the-named : claim.SendsTheNamed
 sends-the-named received own s release c = (

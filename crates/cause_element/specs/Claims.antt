@@ -2,10 +2,10 @@
 -- Proofs: proofs/Claims.antt. Assumes nothing.
 use Prim.Native.Nat.{ℕ, _+_, _*_, _≤_}
 use mathlib.Core.Path.{_≡_}
-use mathlib.Core.Bool.{Bool, true, false, _&&_}
+use mathlib.Core.Bool.{Bool, true, false, _&&_, _||_}
 use mathlib.Core.List.{List, [], _∷_, _++_}
 use mathlib.Core.Logic.{_⊎_}
-use lib.Dec.{leb}
+use lib.Dec.{eqb, leb}
 use lib.ListN.{length, take}
 use Rattle.signal.specs.declared.Kind.{Kind}
 use Rattle.signal.specs.declared.ReroutingCause.{ReroutingCause}
@@ -29,9 +29,9 @@ abbrev pub TooShortIsNothing : Type 0
 TooShortIsNothing =
     (a b high low : ℕ) (content : List ℕ) → length content + 1 ≤ high * 256 + low → elementLength (a ∷ b ∷ high ∷ low ∷ content) ≡ 0
 
--- the three kinds of release
+-- the four kinds of release: of the calling side, of the incumbent and of the rerouting connection, and of the called side (02, Ask 2)
 abbrev pub isReleaseKind : Kind → Bool
-isReleaseKind k = leb 4 (kindNumber k) && leb (kindNumber k) 6
+isReleaseKind k = (leb 4 (kindNumber k) && leb (kindNumber k) 6) || eqb (kindNumber k) 10
 
 -- The same place: a release with a cause as received sends on the received string's element, and one with a cause by number the node's own.
 abbrev pub SendsTheNamed : Type 0

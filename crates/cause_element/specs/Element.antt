@@ -6,7 +6,7 @@ use lib.Dec.{ltb}
 use lib.ListN.{length, getD, take}
 use Rattle.signal.specs.declared.Kind.{Kind}
 use Rattle.signal.specs.declared.Kind.the-variants.{NoSignal, TimerStart, TimerStop, Switch, CallingRelease, IncumbentRelease}
-use Rattle.signal.specs.declared.Kind.the-variants.{ReroutingRelease, SetupRequest, ConnectRequest, Rejection}
+use Rattle.signal.specs.declared.Kind.the-variants.{ReroutingRelease, SetupRequest, ConnectRequest, Rejection, CalledRelease}
 use Rattle.signal.specs.declared.SentCause.{SentCause}
 use Rattle.signal.specs.declared.SentCause.the-variants.{Absent, Numbered, AsReceived}
 use Rattle.signal.specs.declared.Signal.{Signal}
@@ -31,6 +31,7 @@ namedByKind ReroutingRelease cause = namedByCause cause
 namedByKind SetupRequest cause = Neither
 namedByKind ConnectRequest cause = Neither
 namedByKind Rejection cause = Neither
+namedByKind CalledRelease cause = namedByCause cause
 
 abbrev pub namedBy : Signal → Names
 namedBy s = namedByKind (s .kind) (s .cause)

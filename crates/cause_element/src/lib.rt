@@ -40,6 +40,7 @@ pub fn named(signal: Signal) -> Names
         Kind::SetupRequest => Names::Neither,
         Kind::ConnectRequest => Names::Neither,
         Kind::Rejection => Names::Neither,
+        Kind::CalledRelease => by_cause(cause),
     }
 }
 

@@ -28,7 +28,7 @@ fn answer(received: &mut [u8], own: &mut [u8]) -> bool {
     if got == 0 {
         return false;
     }
-    if got < 5 || 9 < head[0] || 2 < head[1] {
+    if got < 5 || 10 < head[0] || 2 < head[1] {
         return print::bad();
     }
     let count = length(head[3], head[4]);
@@ -96,6 +96,7 @@ fn kind(number: u8) -> Kind {
         6 => Kind::ReroutingRelease,
         7 => Kind::SetupRequest,
         8 => Kind::ConnectRequest,
-        _ => Kind::Rejection,
+        9 => Kind::Rejection,
+        _ => Kind::CalledRelease,
     }
 }

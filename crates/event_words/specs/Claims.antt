@@ -8,7 +8,7 @@ use Rattle.events.specs.declared.Event.the-variants.{FromParty, FromDomain}
 use Rattle.events.specs.declared.Node.the-variants.{Source, Destination}
 use Rattle.event_words.specs.Words.{keylessText}
 
--- docs/BENCH.md, "script"; Ask 2: a release is told by the side that it came from, and the one from across the domain with its
+-- docs/BENCH.md, "script"; 02, Ask 2: a release is told by the side that it came from, and the one from across the domain with its
 -- connection. At the source that is the called side's, at the destination the calling side's.
 abbrev pub SidesInWords : Type 0
 SidesInWords =

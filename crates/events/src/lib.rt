@@ -34,3 +34,9 @@ pub enum Act {
     Opens(Wanted),
     Meets(Event),
 }
+
+// An act, and the end of the call at which it is done.
+pub struct NodeAct {
+    pub node: Node,
+    pub act: Act,
+}

@@ -13,6 +13,17 @@ use Rattle.call.proofs.Call.expiry as Call-expiry
 use Rattle.call.proofs.Call.calling_release as Call-calling_release
 use Rattle.call.proofs.Call.called_release as Call-called_release
 use Rattle.call.proofs.Call.handle as Call-handle
+use Rattle.call.proofs.Call.at_source as Call-at_source
+use Rattle.call.proofs.Call.destination_trigger as Call-destination_trigger
+use Rattle.call.proofs.Call.destination_path_found as Call-destination_path_found
+use Rattle.call.proofs.Call.destination_no_path as Call-destination_no_path
+use Rattle.call.proofs.Call.destination_connect as Call-destination_connect
+use Rattle.call.proofs.Call.destination_setup as Call-destination_setup
+use Rattle.call.proofs.Call.destination_ready as Call-destination_ready
+use Rattle.call.proofs.Call.destination_expiry as Call-destination_expiry
+use Rattle.call.proofs.Call.destination_called_release as Call-destination_called_release
+use Rattle.call.proofs.Call.destination_calling_release as Call-destination_calling_release
+use Rattle.call.proofs.Call.at_destination as Call-at_destination
 
 pub Call-opened-has-one-answer : {M : Type 1} → OneAnswer M Call-opened.ended Call-opened.clauses Call-opened.spec
 Call-opened-has-one-answer 𝓤 _ _ _ _ = (refl, λ _ _ _ _ _ _ _ _. facts 𝓤 result)
@@ -46,3 +57,36 @@ Call-called_release-has-one-answer 𝓤 _ _ _ _ = (refl, λ _ _ _ _ _ _ _ _. fac
 
 pub Call-handle-has-one-answer : {M : Type 1} → OneAnswer M Call-handle.ended Call-handle.clauses Call-handle.spec
 Call-handle-has-one-answer 𝓤 _ _ _ _ = (refl, λ _ _ _ _ _ _ _ _. facts 𝓤 result)
+
+pub Call-at_source-has-one-answer : {M : Type 1} → OneAnswer M Call-at_source.ended Call-at_source.clauses Call-at_source.spec
+Call-at_source-has-one-answer 𝓤 _ _ _ _ = (refl, λ _ _ _ _ _ _ _ _. facts 𝓤 result)
+
+pub Call-destination_trigger-has-one-answer : {M : Type 1} → OneAnswer M Call-destination_trigger.ended Call-destination_trigger.clauses Call-destination_trigger.spec
+Call-destination_trigger-has-one-answer 𝓤 _ _ _ _ = (refl, λ _ _ _ _ _ _ _ _. facts 𝓤 result)
+
+pub Call-destination_path_found-has-one-answer : {M : Type 1} → OneAnswer M Call-destination_path_found.ended Call-destination_path_found.clauses Call-destination_path_found.spec
+Call-destination_path_found-has-one-answer 𝓤 _ _ _ _ = (refl, λ _ _ _ _ _ _ _ _. facts 𝓤 result)
+
+pub Call-destination_no_path-has-one-answer : {M : Type 1} → OneAnswer M Call-destination_no_path.ended Call-destination_no_path.clauses Call-destination_no_path.spec
+Call-destination_no_path-has-one-answer 𝓤 _ _ _ _ = (refl, λ _ _ _ _ _ _ _ _. facts 𝓤 result)
+
+pub Call-destination_connect-has-one-answer : {M : Type 1} → OneAnswer M Call-destination_connect.ended Call-destination_connect.clauses Call-destination_connect.spec
+Call-destination_connect-has-one-answer 𝓤 _ _ _ _ = (refl, λ _ _ _ _ _ _ _ _. facts 𝓤 result)
+
+pub Call-destination_setup-has-one-answer : {M : Type 1} → OneAnswer M Call-destination_setup.ended Call-destination_setup.clauses Call-destination_setup.spec
+Call-destination_setup-has-one-answer 𝓤 _ _ _ _ = (refl, λ _ _ _ _ _ _ _ _. facts 𝓤 result)
+
+pub Call-destination_ready-has-one-answer : {M : Type 1} → OneAnswer M Call-destination_ready.ended Call-destination_ready.clauses Call-destination_ready.spec
+Call-destination_ready-has-one-answer 𝓤 _ _ _ _ = (refl, λ _ _ _ _ _ _ _ _. facts 𝓤 result)
+
+pub Call-destination_expiry-has-one-answer : {M : Type 1} → OneAnswer M Call-destination_expiry.ended Call-destination_expiry.clauses Call-destination_expiry.spec
+Call-destination_expiry-has-one-answer 𝓤 _ _ _ _ = (refl, λ _ _ _ _ _ _ _ _. facts 𝓤 result)
+
+pub Call-destination_called_release-has-one-answer : {M : Type 1} → OneAnswer M Call-destination_called_release.ended Call-destination_called_release.clauses Call-destination_called_release.spec
+Call-destination_called_release-has-one-answer 𝓤 _ _ _ _ = (refl, λ _ _ _ _ _ _ _ _. facts 𝓤 result)
+
+pub Call-destination_calling_release-has-one-answer : {M : Type 1} → OneAnswer M Call-destination_calling_release.ended Call-destination_calling_release.clauses Call-destination_calling_release.spec
+Call-destination_calling_release-has-one-answer 𝓤 _ _ _ _ = (refl, λ _ _ _ _ _ _ _ _. facts 𝓤 result)
+
+pub Call-at_destination-has-one-answer : {M : Type 1} → OneAnswer M Call-at_destination.ended Call-at_destination.clauses Call-at_destination.spec
+Call-at_destination-has-one-answer 𝓤 _ _ _ _ = (refl, λ _ _ _ _ _ _ _ _. facts 𝓤 result)

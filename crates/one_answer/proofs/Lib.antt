@@ -5,14 +5,18 @@ pub mod Lines
 pub mod Signal
 pub mod SignalWords
 pub mod Rows
+pub mod SharedRows
 pub mod SourceRequests
 pub mod SourceConnects
 pub mod SourceSetups
 pub mod SourceReleases
 pub mod SourceEndings
+pub mod DestinationRequests
+pub mod DestinationSetups
+pub mod DestinationReleases
 pub mod Call
-pub mod SourceWords
-pub mod SourceTable
+pub mod CallWords
+pub mod CallTable
 pub mod EventRecord
 pub mod EventFault
 pub mod EventWords
@@ -21,3 +25,4 @@ pub mod LineReader
 pub mod ScriptWords
 pub mod ScriptLine
 pub mod Trace
+pub mod Feeds

@@ -9,6 +9,11 @@ use Rattle.rows.proofs.class_of as class_of
 use Rattle.rows.proofs.Effect.refused as Effect-refused
 use Rattle.rows.proofs.Effect.done as Effect-done
 use Rattle.rows.proofs.Effect.given as Effect-given
+use Rattle.rows.proofs.party_kind as party_kind
+use Rattle.rows.proofs.Effect.moved as Effect-moved
+use Rattle.rows.proofs.Effect.rejected as Effect-rejected
+use Rattle.rows.proofs.Effect.told as Effect-told
+use Rattle.rows.proofs.Effect.told_stopping as Effect-told_stopping
 
 pub State-number-has-one-answer : {M : Type 1} → OneAnswer M State-number.ended State-number.clauses State-number.spec
 State-number-has-one-answer 𝓤 _ _ _ _ = (refl, λ _ _ _ _ _ _ _ _. facts 𝓤 result)
@@ -30,3 +35,18 @@ Effect-done-has-one-answer 𝓤 _ _ _ _ = (refl, λ _ _ _ _ _ _ _ _. facts 𝓤 
 
 pub Effect-given-has-one-answer : {M : Type 1} → OneAnswer M Effect-given.ended Effect-given.clauses Effect-given.spec
 Effect-given-has-one-answer 𝓤 _ _ _ _ = (refl, λ _ _ _ _ _ _ _ _. facts 𝓤 result)
+
+pub party_kind-has-one-answer : {M : Type 1} → OneAnswer M party_kind.ended party_kind.clauses party_kind.spec
+party_kind-has-one-answer 𝓤 _ _ _ _ = (refl, λ _ _ _ _ _ _ _ _. facts 𝓤 result)
+
+pub Effect-moved-has-one-answer : {M : Type 1} → OneAnswer M Effect-moved.ended Effect-moved.clauses Effect-moved.spec
+Effect-moved-has-one-answer 𝓤 _ _ _ _ = (refl, λ _ _ _ _ _ _ _ _. facts 𝓤 result)
+
+pub Effect-rejected-has-one-answer : {M : Type 1} → OneAnswer M Effect-rejected.ended Effect-rejected.clauses Effect-rejected.spec
+Effect-rejected-has-one-answer 𝓤 _ _ _ _ = (refl, λ _ _ _ _ _ _ _ _. facts 𝓤 result)
+
+pub Effect-told-has-one-answer : {M : Type 1} → OneAnswer M Effect-told.ended Effect-told.clauses Effect-told.spec
+Effect-told-has-one-answer 𝓤 _ _ _ _ = (refl, λ _ _ _ _ _ _ _ _. facts 𝓤 result)
+
+pub Effect-told_stopping-has-one-answer : {M : Type 1} → OneAnswer M Effect-told_stopping.ended Effect-told_stopping.clauses Effect-told_stopping.spec
+Effect-told_stopping-has-one-answer 𝓤 _ _ _ _ = (refl, λ _ _ _ _ _ _ _ _. facts 𝓤 result)

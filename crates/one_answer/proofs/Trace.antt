@@ -30,7 +30,7 @@ run-has-one-answer 𝓤 _ _ _ _ = (
   λ _ _ _ _ _ _ _ _. facts 𝓤 (λ p q.
       let buffer : _≡_ {A = Page} _ _ = same (p .1 .1 .1 .0) (q .1 .1 .1 .0) in (
         λ i. record { table = same (p .0) (q .0) i; at = buffer i .at; count = same (p .1 .0) (q .1 .0) i; good = same (p .1 .1 .0) (q .1 .1 .0) i },
-        pairs refl (pairs refl (pairs (ap (λ (x : Page). x .bytes) buffer) refl)),
+        pairs refl (pairs refl (pairs refl (pairs (ap (λ (x : Page). x .bytes) buffer) refl))),
       )),
 )
 

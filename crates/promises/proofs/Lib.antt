@@ -1,5 +1,9 @@
 pub mod Laws
 pub mod Rejected
 pub mod Claims
+pub mod Shown
 pub mod Inserted
 pub mod ShutOut
+pub mod Source
+pub mod Destination
+pub mod Ends

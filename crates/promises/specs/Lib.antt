@@ -1,4 +1,4 @@
-pub mod Source
+pub mod Ends
 pub mod Claims
 pub mod Inserted
 pub mod ShutOut

@@ -1,3 +1,3 @@
-// The promises over whole runs of the source node's control: late setups change nothing, every connection number is accounted for, and what
-// is shut out. This crate has no functions: specs/ says the promises, proofs/ why they hold. The control that they speak of is the one that
-// the contracts of source_table name.
+// The promises over whole runs of the control, once for any end of a call and then at the source and the destination: late setups change
+// nothing, every connection number is accounted for, and what is shut out. This crate has no functions: specs/ says the promises, proofs/
+// why they hold. The controls that they speak of are those that the contracts of call_table name.

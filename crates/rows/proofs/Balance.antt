@@ -19,8 +19,10 @@ use Rattle.events.specs.declared.Event.the-variants.{Connect, Expiry, FromDomai
 use Rattle.rows.proofs.Every.{Each, each, right}
 use Rattle.rows.proofs.Same.{not-so, phase-same, slot-same}
 use Rattle.rows.proofs.Sent.{append-none, empty-of, ended-append, or-right, pad, placed, sent-length}
+use Rattle.events.specs.declared.Node.{Node}
+use Rattle.events.specs.declared.Node.the-variants.{Destination, Source}
 use Rattle.rows.specs.Cases.{NamesIncumbent, NamesOther, NamesRerouting, Standing, caseOf, happeningOf, isIncumbent, isRerouting}
-use Rattle.rows.specs.Effects.{Node, SourceNode, closingSent, effect, givesIn, givesNew, partyKind, sentBy, stateAfter, switchSent}
+use Rattle.rows.specs.Effects.{closingSent, effect, givesIn, givesNew, partyKind, sentBy, stateAfter, switchSent}
 use Rattle.rows.specs.Effects.{timerSent, toldSent, value}
 use Rattle.rows.specs.Laws.{balances, endedSlots, fits, givenSlots, isBalanced, isOther, isQuiet, isTold, knowsNamed, reportedSlots}
 use Rattle.rows.specs.Laws.{roleSlots, samePhase, sameSlot, sends, slotsOf, stillness, tallies, tally}
@@ -96,8 +98,10 @@ switch-ends s n OldRerouting = refl
 switch-ends s n NewNumber = refl
 
 party-ends : (node : Node) (got : ReceivedCause) (t : Told) → endedSent (toldSent (partyKind node) 0 got t) ≡ []
-party-ends SourceNode got Untold = refl
-party-ends SourceNode got (Tells say code) = refl
+party-ends Source got Untold = refl
+party-ends Source got (Tells say code) = refl
+party-ends Destination got Untold = refl
+party-ends Destination got (Tells say code) = refl
 
 retires-ends : (s : State) (n : ℕ) (got : ReceivedCause) (t : Told) →
     endedSent (toldSent IncumbentRelease (incumbentOf s) got t) ≡ valuesOf s n (cond (isTold t) (OldIncumbent ∷ []) [])

@@ -10,3 +10,6 @@ pub mod Items
 pub mod Unneeded
 pub mod Claims
 pub mod Wrong
+pub mod Page
+pub mod Read
+pub mod NotTheRow

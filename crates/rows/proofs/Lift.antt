@@ -5,8 +5,9 @@ use mathlib.Core.Path.{_≡_}
 use Rattle.events.specs.Events.{receivedIn}
 use Rattle.events.specs.declared.Event.{Event}
 use Rattle.rows.proofs.Every.{Each, each}
+use Rattle.events.specs.declared.Node.{Node}
 use Rattle.rows.specs.Cases.{Standing, caseOf}
-use Rattle.rows.specs.Effects.{Node, effect}
+use Rattle.rows.specs.Effects.{effect}
 use Rattle.rows.specs.Laws.{isLawful, laws}
 use Rattle.rows.specs.Meaning.{Kept}
 use Rattle.rows.specs.Rules.{Rule}

@@ -11,7 +11,8 @@ use Rattle.signal.specs.Signals.{none, places}
 use Rattle.signal.specs.declared.Kind.{Kind}
 use Rattle.signal.specs.declared.ReceivedCause.{ReceivedCause}
 use Rattle.signal.specs.declared.Signal.{Signal}
-use Rattle.rows.specs.Effects.{Node, closingSent, sentBy, switchSent, timerSent, toldSent}
+use Rattle.events.specs.declared.Node.{Node}
+use Rattle.rows.specs.Effects.{closingSent, sentBy, switchSent, timerSent, toldSent}
 use Rattle.rows.specs.Laws.{isClosed, isTold, once, sameSlot, sameTimer, sends}
 use Rattle.rows.specs.Rules.{Closing, LeavesTimer, NewNumber, NoClosing, NoSlot, OldIncumbent, OldRerouting, Rejects, Rule}
 use Rattle.rows.specs.Rules.{SendsConnect, SendsSetup, Slot, StartsTimer, StopsTimer, Tells, Timer, Told, Untold}

@@ -10,7 +10,7 @@ use borrow.Author.Tests.{eq-eqb, eqb-true, lt-ltb, ltb-true}
 use Rattle.signal.specs.Counting.{CameSo, Honest, inOrder, kindNumber, named, ofKind, turnOf}
 use Rattle.signal.specs.Signals.{places}
 use Rattle.signal.specs.declared.Kind.{Kind}
-use Rattle.signal.specs.declared.Kind.the-variants.{CallingRelease, ConnectRequest, IncumbentRelease, NoSignal, Rejection}
+use Rattle.signal.specs.declared.Kind.the-variants.{CalledRelease, CallingRelease, ConnectRequest, IncumbentRelease, NoSignal, Rejection}
 use Rattle.signal.specs.declared.Kind.the-variants.{ReroutingRelease, SetupRequest, Switch, TimerStart, TimerStop}
 use Rattle.signal.specs.declared.ReceivedCause.{ReceivedCause}
 use Rattle.signal.specs.declared.ReceivedCause.the-variants.{NoCause, WithCause}
@@ -22,9 +22,11 @@ use Rattle.rows.proofs.Balance.{done, few, sent}
 use Rattle.rows.proofs.Every.{Each, each, left, right}
 use Rattle.rows.proofs.Same.{bool-same, phase-same, slot-same, timer-same}
 use Rattle.rows.proofs.Sent.{append-none, kind-append, or-right, pad, placed, sent-length}
+use Rattle.events.specs.declared.Node.{Node}
+use Rattle.events.specs.declared.Node.the-variants.{Destination, Source}
 use Rattle.rows.specs.Cases.{Standing, caseOf, happeningOf, hasRoom}
 use Rattle.rows.specs.Checks.{AllAre, AllIncumbent, Nones, isItsIncumbent, partyWanted, startsWanted, stopsWanted}
-use Rattle.rows.specs.Effects.{Node, SourceNode, closingSent, givesIn, givesNew, partyKind, said, sentBy, switchSent, timerSent}
+use Rattle.rows.specs.Effects.{closingSent, givesIn, givesNew, partyKind, said, sentBy, switchSent, timerSent}
 use Rattle.rows.specs.Effects.{toldSent, value}
 use Rattle.rows.specs.Laws.{closingNames, endsOtherwise, fits, givesWithSetup, hasRoomFor, isClosed, isExpired, isPartys, isQuiet}
 use Rattle.rows.specs.Laws.{isTimed, isTold, once, sameBool, sameSlot, sameTimer, sends, sendsSetup, stillness, switchNames}
@@ -65,9 +67,10 @@ told-other : (k j : Kind) → eqb (kindNumber j) (kindNumber k) ≡ false → (n
 told-other k j h n got Untold = refl
 told-other k j h n got (Tells say code) = simp h
 
-party-other : (k : Kind) → eqb 4 (kindNumber k) ≡ false → (node : Node) (got : ReceivedCause) (t : Told) →
+party-other : (k : Kind) → eqb 4 (kindNumber k) ≡ false → eqb 10 (kindNumber k) ≡ false → (node : Node) (got : ReceivedCause) (t : Told) →
     ofKind k (toldSent (partyKind node) 0 got t) ≡ []
-party-other k h SourceNode got t = told-other k CallingRelease h 0 got t
+party-other k h g Source got t = told-other k CallingRelease h 0 got t
+party-other k h g Destination got t = told-other k CalledRelease g 0 got t
 
 closing-other : (k : Kind) → eqb 7 (kindNumber k) ≡ false → eqb 8 (kindNumber k) ≡ false → eqb 9 (kindNumber k) ≡ false →
     (s : State) (n : ℕ) (got : ReceivedCause) (x : Closing) → ofKind k (closingSent s n got x) ≡ []
@@ -198,7 +201,8 @@ switch-rises s n NewNumber l p = p
 party-rises : (node : Node) (got : ReceivedCause) (t : Told) (l : List Signal) → rising 3 l ≡ true →
     rising 2 (toldSent (partyKind node) 0 got t ++ l) ≡ true
 party-rises node got Untold l p = lower 2 3 l (omega arith) p
-party-rises SourceNode got (Tells say code) l p = p
+party-rises Source got (Tells say code) l p = p
+party-rises Destination got (Tells say code) l p = p
 
 retires-rises : (n : ℕ) (got : ReceivedCause) (t : Told) (l : List Signal) → rising 4 l ≡ true →
     rising 3 (toldSent IncumbentRelease n got t ++ l) ≡ true
@@ -283,26 +287,39 @@ closing-honest got s n (SendsSetup slot) = (tt, tt)
 closing-honest got s n (SendsConnect slot) = (tt, tt)
 closing-honest got s n (Rejects say code) = (said-so got say, tt)
 
-parties-in : (node : Node) (s : State) (n : ℕ) (got : ReceivedCause) (rule : Rule) →
-    ofKind (partyKind node) (sentBy node s n got rule) ≡ ofKind (partyKind node) (toldSent (partyKind node) 0 got (rule .party))
-parties-in SourceNode s n got rule =
+-- the signals of a kind that no other field of a rule sends
+kind-among : (k : Kind) → eqb 1 (kindNumber k) ≡ false → eqb 2 (kindNumber k) ≡ false → eqb 3 (kindNumber k) ≡ false →
+    eqb 5 (kindNumber k) ≡ false → eqb 6 (kindNumber k) ≡ false → eqb 7 (kindNumber k) ≡ false → eqb 8 (kindNumber k) ≡ false →
+    eqb 9 (kindNumber k) ≡ false → (l : List Signal) (s : State) (n : ℕ) (got : ReceivedCause) (rule : Rule) →
+    ofKind k (timerSent (rule .timer) ++ (switchSent s n (rule .switch) ++ (l ++ (toldSent IncumbentRelease (incumbentOf s) got (rule .retires) ++ (toldSent ReroutingRelease (reroutingOf s) got (rule .drops) ++ closingSent s n got (rule .closing)))))) ≡ ofKind k l
+kind-among k a b c d e f g h l s n got rule =
     simp (
       kind-append,
-      timer-other CallingRelease refl refl,
-      switch-other CallingRelease refl,
-      told-other CallingRelease IncumbentRelease refl,
-      told-other CallingRelease ReroutingRelease refl,
-      closing-other CallingRelease refl refl refl,
+      timer-other k a b,
+      switch-other k c,
+      told-other k IncumbentRelease d,
+      told-other k ReroutingRelease e,
+      closing-other k f g h,
       append-none,
     )
 
+parties-in : (node : Node) (s : State) (n : ℕ) (got : ReceivedCause) (rule : Rule) →
+    ofKind (partyKind node) (sentBy node s n got rule) ≡ ofKind (partyKind node) (toldSent (partyKind node) 0 got (rule .party))
+parties-in Source s n got rule =
+    kind-among CallingRelease refl refl refl refl refl refl refl refl (toldSent CallingRelease 0 got (rule .party)) s n got rule
+parties-in Destination s n got rule =
+    kind-among CalledRelease refl refl refl refl refl refl refl refl (toldSent CalledRelease 0 got (rule .party)) s n got rule
+
 party-kind : (node : Node) → eqb 0 (kindNumber (partyKind node)) ≡ false
-party-kind SourceNode = refl
+party-kind Source = refl
+party-kind Destination = refl
 
 all-party : (node : Node) (got : ReceivedCause) (t : Told) →
     named (ofKind (partyKind node) (toldSent (partyKind node) 0 got t)) ≡ cond (isTold t) (0 ∷ []) []
-all-party SourceNode got Untold = refl
-all-party SourceNode got (Tells say code) = refl
+all-party Source got Untold = refl
+all-party Source got (Tells say code) = refl
+all-party Destination got Untold = refl
+all-party Destination got (Tells say code) = refl
 
 party-is : (s : State) (remote : ℕ) (e : Event) → isPartys (happeningOf s remote e) ≡ isFromParty e
 party-is s remote Trigger = refl
@@ -385,7 +402,7 @@ module _ (node : Node) (x : Standing) (e : Event) (rule : Rule) (fit : fits rule
         kind-append,
         timer-some,
         switch-other NoSignal refl,
-        party-other NoSignal refl,
+        party-other NoSignal refl refl,
         told-other NoSignal IncumbentRelease refl,
         told-other NoSignal ReroutingRelease refl,
         closing-other NoSignal refl refl refl,
@@ -408,7 +425,7 @@ module _ (node : Node) (x : Standing) (e : Event) (rule : Rule) (fit : fits rule
       simp (
         kind-append,
         switch-other TimerStart refl,
-        party-other TimerStart refl,
+        party-other TimerStart refl refl,
         told-other TimerStart IncumbentRelease refl,
         told-other TimerStart ReroutingRelease refl,
         closing-other TimerStart refl refl refl,
@@ -420,7 +437,7 @@ module _ (node : Node) (x : Standing) (e : Event) (rule : Rule) (fit : fits rule
       simp (
         kind-append,
         switch-other TimerStop refl,
-        party-other TimerStop refl,
+        party-other TimerStop refl refl,
         told-other TimerStop IncumbentRelease refl,
         told-other TimerStop ReroutingRelease refl,
         closing-other TimerStop refl refl refl,
@@ -456,7 +473,7 @@ module _ (node : Node) (x : Standing) (e : Event) (rule : Rule) (fit : fits rule
         kind-append,
         timer-other IncumbentRelease refl refl,
         switch-other IncumbentRelease refl,
-        party-other IncumbentRelease refl,
+        party-other IncumbentRelease refl refl,
         told-other IncumbentRelease ReroutingRelease refl,
         closing-other IncumbentRelease refl refl refl,
         append-none,
@@ -468,7 +485,7 @@ module _ (node : Node) (x : Standing) (e : Event) (rule : Rule) (fit : fits rule
         kind-append,
         timer-other ReroutingRelease refl refl,
         switch-other ReroutingRelease refl,
-        party-other ReroutingRelease refl,
+        party-other ReroutingRelease refl refl,
         told-other ReroutingRelease IncumbentRelease refl,
         closing-other ReroutingRelease refl refl refl,
         append-none,
@@ -479,7 +496,7 @@ module _ (node : Node) (x : Standing) (e : Event) (rule : Rule) (fit : fits rule
       simp (
         kind-append,
         timer-other Switch refl refl,
-        party-other Switch refl,
+        party-other Switch refl refl,
         told-other Switch IncumbentRelease refl,
         told-other Switch ReroutingRelease refl,
         closing-other Switch refl refl refl,
@@ -488,23 +505,23 @@ module _ (node : Node) (x : Standing) (e : Event) (rule : Rule) (fit : fits rule
 
   -- the signals of a closing's kind are the closing's
   closing-in : (k : Kind) → eqb 1 (kindNumber k) ≡ false → eqb 2 (kindNumber k) ≡ false → eqb 3 (kindNumber k) ≡ false →
-      eqb 4 (kindNumber k) ≡ false → eqb 5 (kindNumber k) ≡ false → eqb 6 (kindNumber k) ≡ false →
+      eqb 4 (kindNumber k) ≡ false → eqb 10 (kindNumber k) ≡ false → eqb 5 (kindNumber k) ≡ false → eqb 6 (kindNumber k) ≡ false →
       ofKind k all ≡ ofKind k (closingSent s n got (rule .closing))
-  closing-in k a b c d f g =
+  closing-in k a b c d h f g =
       simp (
         kind-append,
         timer-other k a b,
         switch-other k c,
-        party-other k d,
+        party-other k d h,
         told-other k IncumbentRelease f,
         told-other k ReroutingRelease g,
       )
 
   pub rejects-in : ofKind Rejection (made .signals) ≡ ofKind Rejection (closingSent s n got (rule .closing))
-  rejects-in = kind-placed Rejection refl all (few node x e rule fit) ∙ closing-in Rejection refl refl refl refl refl refl
+  rejects-in = kind-placed Rejection refl all (few node x e rule fit) ∙ closing-in Rejection refl refl refl refl refl refl refl
 
   pub connects-in : ofKind ConnectRequest (made .signals) ≡ ofKind ConnectRequest (closingSent s n got (rule .closing))
-  connects-in = kind-placed ConnectRequest refl all (few node x e rule fit) ∙ closing-in ConnectRequest refl refl refl refl refl refl
+  connects-in = kind-placed ConnectRequest refl all (few node x e rule fit) ∙ closing-in ConnectRequest refl refl refl refl refl refl refl
 
   switch-done : switchNames rule ≡ true → sameSlot (rule .switch) NoSlot ≡ false →
       isItsIncumbent (made .state) (value s n (rule .switch)) ≡ true
@@ -529,12 +546,12 @@ module _ (node : Node) (x : Standing) (e : Event) (rule : Rule) (fit : fits rule
 
   pub connects : closingNames (rule .closing) rule ≡ true → AllAre (reroutingOf s) (named (ofKind ConnectRequest (made .signals)))
   connects p =
-      rw (kind-placed ConnectRequest refl all (few node x e rule fit), closing-in ConnectRequest refl refl refl refl refl refl)
+      rw (kind-placed ConnectRequest refl all (few node x e rule fit), closing-in ConnectRequest refl refl refl refl refl refl refl)
       (all-connects s n got (rule .closing) rule p)
 
   pub setups : closingNames (rule .closing) rule ≡ true → AllAre n (named (ofKind SetupRequest (made .signals)))
   setups p =
-      rw (kind-placed SetupRequest refl all (few node x e rule fit), closing-in SetupRequest refl refl refl refl refl refl)
+      rw (kind-placed SetupRequest refl all (few node x e rule fit), closing-in SetupRequest refl refl refl refl refl refl refl)
       (all-setups s n got (rule .closing) rule p)
 
   pub ordered : inOrder (made .signals) ≡ true
@@ -625,7 +642,7 @@ module _ (node : Node) (x : Standing) (e : Event) (rule : Rule) (fit : fits rule
   given p q =
       rw (
         kind-placed SetupRequest refl all (few node x e rule fit),
-        closing-in SetupRequest refl refl refl refl refl refl,
+        closing-in SetupRequest refl refl refl refl refl refl refl,
         setups-sent s n got (rule .closing),
         one-long (rule .stores) (numberBrought e),
         one-long (givesNew rule) n,

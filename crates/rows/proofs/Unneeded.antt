@@ -13,8 +13,9 @@ use Rattle.signal.specs.declared.ReceivedCause.{ReceivedCause}
 use Rattle.rows.proofs.Every.{Each, each, left, right}
 use Rattle.rows.proofs.Same.{slot-same}
 use Rattle.rows.proofs.Sent.{or-right}
+use Rattle.events.specs.declared.Node.{Node}
 use Rattle.rows.specs.Cases.{Case, hasRoom}
-use Rattle.rows.specs.Effects.{Node, closingSent, effect, givesIn, givesNew, isNew, isNext, nextNumber, partyKind, switchSent}
+use Rattle.rows.specs.Effects.{closingSent, effect, givesIn, givesNew, isNew, isNext, nextNumber, partyKind, switchSent}
 use Rattle.rows.specs.Effects.{timerSent, toldSent, value}
 use Rattle.rows.specs.Laws.{closingNames, fits, hasRoomFor, isLawful, laws, sameSlot, switchNames}
 use Rattle.rows.specs.Rules.{Closing, NewNumber, NoClosing, NoSlot, OldIncumbent, OldRerouting, Rejects, Rule, SendsConnect}

@@ -8,6 +8,8 @@ use lib.Dec.{eqb}
 use Rattle.signal.specs.Signals.{none, rejection, releaseWith, timerStart, timerStop}
 use Rattle.signal.specs.declared.CauseCode.the-variants.{CallRejected}
 use Rattle.signal.specs.declared.Kind.the-variants.{IncumbentRelease, ReroutingRelease}
+use Rattle.signal.specs.declared.ReceivedCause.{ReceivedCause}
+use Rattle.signal.specs.declared.ReceivedCause.the-variants.{NoCause, WithCause}
 use Rattle.signal.specs.declared.ReroutingCause.{ReroutingCause}
 use Rattle.signal.specs.declared.SentCause.the-variants.{Absent}
 use Rattle.signal.specs.declared.Signal.{Signal}
@@ -15,8 +17,8 @@ use Rattle.signal.specs.declared.Switchover.{Switchover}
 use Rattle.events.specs.Events.{isFromParty}
 use Rattle.events.specs.declared.Event.{Event}
 use Rattle.events.specs.declared.Event.the-variants.{Connect, Expiry, FromDomain, FromParty, NoPath, PathFound, Ready, Setup, Trigger}
+use Rattle.events.specs.declared.Node.{Node}
 use Rattle.rows.specs.Cases.{Standing, hasRoom}
-use Rattle.rows.specs.Effects.{Node}
 use Rattle.rows.specs.States.{heldIn, incumbentOf, reroutingOf}
 use Rattle.rows.specs.declared.State.{State}
 use Rattle.rows.specs.declared.State.the-variants.{Awaiting, HardUnderway, HardWaiting, Idle, Null, SoftInitiated, SoftProceeding}
@@ -64,6 +66,11 @@ namesNotHeld s (FromParty cause) = false
 namesNotHeld s (FromDomain c cause crankback) = not (holds s c)
 namesNotHeld s Ready = false
 namesNotHeld s Expiry = false
+
+-- no Rerouting cause came
+abbrev pub hasNoCause : ReceivedCause → Bool
+hasNoCause NoCause = true
+hasNoCause (WithCause k) = false
 
 abbrev pub isNone : List ReroutingCause → Bool
 isNone [] = true

@@ -4,24 +4,27 @@ use Prim.Native.Nat.{ℕ}
 use mathlib.Core.Bool.{Bool, _&&_, _||_, false, true}
 use mathlib.Core.List.{List, [], _++_, _∷_}
 use Rattle.signal.specs.Causes.{asReceived, cause}
-use Rattle.signal.specs.Signals.{connectOn, none, places, releaseWith, setupOn, switchTo, timerStart, timerStop}
+use Rattle.signal.specs.Signals.{connectOn, none, places, rejection, releaseOf, releaseWith, setupOn, switchTo, timerStart, timerStop}
 use Rattle.signal.specs.declared.Answer.{Answer}
 use Rattle.signal.specs.declared.Answer.the-variants.{Done}
 use Rattle.signal.specs.declared.Fresh.{Fresh}
 use Rattle.signal.specs.declared.Fresh.the-variants.{Next, Spent}
 use Rattle.signal.specs.declared.Kind.{Kind}
-use Rattle.signal.specs.declared.Kind.the-variants.{CallingRelease, IncumbentRelease, Rejection, ReroutingRelease}
+use Rattle.signal.specs.declared.Kind.the-variants.{CalledRelease, CallingRelease, IncumbentRelease, Rejection, ReroutingRelease}
 use Rattle.signal.specs.declared.ReceivedCause.{ReceivedCause}
 use Rattle.signal.specs.declared.ReroutingCause.{ReroutingCause}
 use Rattle.signal.specs.declared.SentCause.{SentCause}
 use Rattle.signal.specs.declared.SentCause.the-variants.{Absent, Numbered}
 use Rattle.signal.specs.declared.Signal.{Signal}
+use Rattle.events.specs.declared.Node.{Node}
+use Rattle.events.specs.declared.Node.the-variants.{Destination, Source}
 use Rattle.rows.specs.Rules.{Closing, LeavesTimer, NewNumber, NoClosing, NoSlot, OldIncumbent, OldRerouting, Rejects, Rule, Saying}
 use Rattle.rows.specs.Rules.{Says1, Says2, Says4, Says5, Says6, Says8, SaysAsCame, SaysNothing, SendsConnect, SendsSetup, Slot}
 use Rattle.rows.specs.Rules.{StartsTimer, StopsTimer, Tells, Timer, Told, Untold}
 use Rattle.rows.specs.States.{Phase, built, holdsIncumbent, holdsRerouting, incumbentOf, reroutingOf}
 use Rattle.rows.specs.declared.Effect.{Effect}
 use Rattle.rows.specs.declared.State.{State}
+use Rattle.rows.specs.declared.State.the-variants.{Null}
 
 -- the number in a slot: of the state before, or the next one, n
 abbrev pub value : State → ℕ → Slot → ℕ
@@ -82,13 +85,10 @@ closingSent s n got (SendsSetup slot) = setupOn (value s n slot) ∷ []
 closingSent s n got (SendsConnect slot) = connectOn (value s n slot) ∷ []
 closingSent s n got (Rejects say code) = releaseWith Rejection 0 (said got say) code ∷ []
 
--- the node that a rule is carried out at: one end of the call
-pub data Node : Type 0 where
-  SourceNode : Node
-
--- the release of the node's own party: at the source the calling one
+-- the release of the node's own party: at the source the calling one, at the destination the called one (02, Ask 2; decision 63)
 abbrev pub partyKind : Node → Kind
-partyKind SourceNode = CallingRelease
+partyKind Source = CallingRelease
+partyKind Destination = CalledRelease
 
 -- the signals of a rule, in the printed order
 abbrev pub sentBy : Node → State → ℕ → ReceivedCause → Rule → List Signal
@@ -120,16 +120,6 @@ effect node s n got rule =
       signals = places (sentBy node s n got rule);
     }
 
--- the effects that the code builds
-abbrev pub refusedIn : Answer → State → Effect
-refusedIn a s = record { answer = a; state = s; gives = false; stores = false; signals = places [] }
-
-abbrev pub doneIn : State → Signal → Signal → Signal → Effect
-doneIn s x y z = record { answer = Done; state = s; gives = false; stores = false; signals = x ∷ y ∷ z ∷ none ∷ [] }
-
-abbrev pub givenIn : State → Bool → Signal → Signal → Signal → Effect
-givenIn s stores x y z = record { answer = Done; state = s; gives = true; stores = stores; signals = x ∷ y ∷ z ∷ none ∷ [] }
-
 -- the next number and whether there is one, as the code has them
 abbrev pub nextNumber : Fresh → ℕ
 nextNumber (Next n) = n
@@ -138,3 +128,31 @@ nextNumber Spent = 0
 abbrev pub isNext : Fresh → Bool
 isNext (Next n) = true
 isNext Spent = false
+
+-- the same with the next number as the code has it; `Spent` where the event gives none
+abbrev pub carriedAt : Node → State → Fresh → ReceivedCause → Rule → Effect
+carriedAt node s next got rule = effect node s (nextNumber next) got rule
+
+-- the effects that the code builds
+abbrev pub refusedIn : Answer → State → Effect
+refusedIn a s = record { answer = a; state = s; gives = false; stores = false; signals = places [] }
+
+abbrev pub doneIn : State → Signal → Signal → Signal → Effect
+doneIn s x y z = record { answer = Done; state = s; gives = false; stores = false; signals = x ∷ y ∷ z ∷ none ∷ [] }
+
+-- nothing is sent; a setup is rejected; the call ends and the node's own party is told, with another signal behind it or the timer stopped
+-- before it
+abbrev pub movedQuietly : State → Effect
+movedQuietly s = doneIn s none none none
+
+abbrev pub rejectionLeft : ReroutingCause → State → Effect
+rejectionLeft k s = doneIn s (rejection k) none none
+
+abbrev pub endedTelling : Node → SentCause → Signal → Effect
+endedTelling node cause other = doneIn Null (releaseOf (partyKind node) 0 cause) other none
+
+abbrev pub stoppedTelling : Node → SentCause → Effect
+stoppedTelling node cause = doneIn Null timerStop (releaseOf (partyKind node) 0 cause) none
+
+abbrev pub givenIn : State → Bool → Signal → Signal → Signal → Effect
+givenIn s stores x y z = record { answer = Done; state = s; gives = true; stores = stores; signals = x ∷ y ∷ z ∷ none ∷ [] }

@@ -242,6 +242,18 @@ givesWithSetup rule = sameBool (givesNew rule) (sendsSetup (rule .closing) || ru
 abbrev pub setsUpOnce : Rule → Bool
 setsUpOnce rule = not (sendsSetup (rule .closing) && rule .stores)
 
+-- a number is given only on a path found, by a setup, or over an alternate path: no other event of either end asks for one
+abbrev pub mayGive : Happening → Bool
+mayGive Triggered = false
+mayGive FoundPath = true
+mayGive FoundNone = false
+mayGive (Connected role agreed) = false
+mayGive (SetUp asked late) = true
+mayGive (PartyReleased class) = false
+mayGive (DomainReleased role class crankback) = true
+mayGive SaidReady = false
+mayGive Expired = false
+
 -- all laws of a row
 abbrev pub laws : Case → Rule → List Bool
 laws c rule =

@@ -8,3 +8,5 @@ pub mod Checks
 pub mod Meaning
 pub mod Papers
 pub mod Claims
+pub mod Situations
+pub mod Page

@@ -14,10 +14,11 @@ use Rattle.signal.specs.declared.Signal.{Signal}
 use Rattle.signal.specs.declared.Switchover.{Switchover}
 use Rattle.events.specs.Events.{isExpiry, numberBrought, receivedIn, reported}
 use Rattle.events.specs.declared.Event.{Event}
+use Rattle.events.specs.declared.Node.{Node}
 use Rattle.rows.specs.Cases.{Standing, askingOf, caseOf, hasRoom}
 use Rattle.rows.specs.Checks.{AllAre, AllIncumbent, Demands, Nones, answerNumberWanted, code21Wanted, partyWanted, rejectionWanted}
 use Rattle.rows.specs.Checks.{startsWanted, stopsWanted, storedWanted}
-use Rattle.rows.specs.Effects.{Node, causesOf, partyKind}
+use Rattle.rows.specs.Effects.{causesOf, partyKind}
 use Rattle.rows.specs.Laws.{Wants}
 use Rattle.rows.specs.Rules.{isDone}
 use Rattle.rows.specs.States.{heldIn, incumbentOf, isHard, isNull, phaseOf, reroutingOf}

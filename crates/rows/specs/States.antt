@@ -63,6 +63,10 @@ stateNumber (SoftProceeding i r) = 5
 stateNumber (SoftInitiated i r) = 6
 stateNumber (Awaiting i r) = 7
 
+-- the state with that number
+abbrev pub isAt : ℕ → State → Bool
+isAt n s = eqb (stateNumber s) n
+
 -- no call
 abbrev pub isNull : State → Bool
 isNull s = eqb (stateNumber s) 0
@@ -131,6 +135,9 @@ holdsRerouting AtSoftTriggered = false
 holdsRerouting AtSoftProceeding = true
 holdsRerouting AtSoftInitiated = true
 holdsRerouting AtAwaiting = true
+
+abbrev pub isIn : ℕ → Phase → Bool
+isIn n phase = eqb (phaseNumber phase) n
 
 abbrev pub isOver : Phase → Bool
 isOver phase = eqb (phaseNumber phase) 0

@@ -6,9 +6,15 @@
 ghost use mathlib.Core.Path.{_≡_};
 ghost use Rattle.rows.specs.States.{stateNumber, incumbentOf, reroutingOf};
 ghost use Rattle.rows.specs.Cases.{classOf};
-ghost use Rattle.rows.specs.Effects.{refusedIn, doneIn, givenIn};
+ghost use Rattle.rows.specs.Effects.{partyKind, refusedIn, doneIn, givenIn};
+ghost use Rattle.rows.specs.Effects.{movedQuietly, rejectionLeft, endedTelling, stoppedTelling};
+use events::Node;
 use signal::Answer;
+use signal::CauseCode;
+use signal::Kind;
 use signal::ReceivedCause;
+use signal::ReroutingCause;
+use signal::SentCause;
 use signal::Signal;
 
 // The states of 6.2.3 and 6.3.3, each with its own connection numbers: the incumbent first, then the rerouting one. Two have a name for
@@ -100,6 +106,16 @@ pub fn class_of(cause: ReceivedCause) -> Class
     }
 }
 
+// The release of the node's own party.
+pub fn party_kind(node: Node) -> Kind
+    ensures { λ r. ⌜ r ≡ partyKind node ⌝ }
+{
+    match node {
+        Node::Source => Kind::CallingRelease,
+        Node::Destination => Kind::CalledRelease,
+    }
+}
+
 // What an event does to a call: a rule, carried out on the numbers of a record. `gives`: the state holds a new number. `stores`: the
 // setup's incarnation number is stored. The signals come first: so laid out, an event of the trace costs eighteen machine instructions
 // fewer.
@@ -135,6 +151,36 @@ impl Effect {
             stores: false,
             signals: [first, second, third, Signal::NONE],
         }
+    }
+
+    // Done, in a state, and nothing is sent.
+    pub fn moved(state: State) -> Effect
+        ensures { λ r. ⌜ r ≡ movedQuietly state ⌝ }
+    {
+        Effect::done(state, Signal::NONE, Signal::NONE, Signal::NONE)
+    }
+
+    // A setup is rejected to the neighbour, which leaves the call as it is.
+    pub fn rejected(cause: ReroutingCause, state: State) -> Effect
+        ensures { λ r. ⌜ r ≡ rejectionLeft cause state ⌝ }
+    {
+        Effect::done(state, Signal::rejection(cause), Signal::NONE, Signal::NONE)
+    }
+
+    // The call ends, and the node's own party is told; another signal stands behind it.
+    pub fn told(node: Node, cause: SentCause, other: Signal) -> Effect
+        ensures { λ r. ⌜ r ≡ endedTelling node cause other ⌝ }
+    {
+        let party = Signal::release(party_kind(node), 0, cause, CauseCode::Section66);
+        Effect::done(State::Null, party, other, Signal::NONE)
+    }
+
+    // The same out of the Hard states, where the timer is stopped first.
+    pub fn told_stopping(node: Node, cause: SentCause) -> Effect
+        ensures { λ r. ⌜ r ≡ stoppedTelling node cause ⌝ }
+    {
+        let party = Signal::release(party_kind(node), 0, cause, CauseCode::Section66);
+        Effect::done(State::Null, Signal::TIMER_STOP, party, Signal::NONE)
     }
 
     // Done, in a state that holds a new number.

@@ -7,7 +7,7 @@ use mathlib.Core.List.{List, [], _∷_}
 use lib.Dec.{eqb, ltb}
 use Rattle.signal.specs.declared.Kind.{Kind}
 use Rattle.signal.specs.declared.Kind.the-variants.{NoSignal, TimerStart, TimerStop, Switch, CallingRelease, IncumbentRelease}
-use Rattle.signal.specs.declared.Kind.the-variants.{ReroutingRelease, SetupRequest, ConnectRequest, Rejection}
+use Rattle.signal.specs.declared.Kind.the-variants.{ReroutingRelease, SetupRequest, ConnectRequest, Rejection, CalledRelease}
 use Rattle.signal.specs.declared.SentCause.{SentCause}
 use Rattle.signal.specs.declared.SentCause.the-variants.{Absent, Numbered, AsReceived}
 use Rattle.signal.specs.declared.ReceivedCause.{ReceivedCause}
@@ -37,6 +37,7 @@ kindNumber ReroutingRelease = 6
 kindNumber SetupRequest = 7
 kindNumber ConnectRequest = 8
 kindNumber Rejection = 9
+kindNumber CalledRelease = 10
 
 -- the signals of one kind, in order
 abbrev pub ofKind : Kind → List Signal → List Signal
@@ -66,7 +67,8 @@ abbrev pub withCode21 : List Signal → List Signal
 withCode21 [] = []
 withCode21 (s ∷ more) = cond (isCallRejected (s .code)) (s ∷ withCode21 more) (withCode21 more)
 
--- the printed order: timer, switch, calling-side release, incumbent release, rerouting release, setup or connect or reject (01, "Signals")
+-- the printed order: timer, switch, calling-side release, incumbent release, rerouting release, setup or connect or reject (01, "Signals");
+-- at the destination the called-side release has the place of the calling-side one (02, Ask 2; decision 63)
 abbrev pub turnOf : Kind → ℕ
 turnOf NoSignal = 7
 turnOf TimerStart = 1
@@ -78,6 +80,7 @@ turnOf ReroutingRelease = 5
 turnOf SetupRequest = 6
 turnOf ConnectRequest = 6
 turnOf Rejection = 6
+turnOf CalledRelease = 3
 
 -- b may stand in the place after a: it is none, or its turn is later (and a is not none)
 abbrev pub follows : Kind → Kind → Bool

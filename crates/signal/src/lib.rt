@@ -152,7 +152,8 @@ impl Wanted {
     }
 }
 
-// The kinds of signal, in the order in which one event's signals stand (01, "Signals").
+// The kinds of signal, in the order of decision 16. The called-side release is the destination's (02, Ask 2); among the signals of one
+// event it has the place of the calling-side one.
 pub enum Kind {
     NoSignal,
     TimerStart,
@@ -164,6 +165,7 @@ pub enum Kind {
     SetupRequest,
     ConnectRequest,
     Rejection,
+    CalledRelease,
 }
 
 pub struct Signal {
@@ -207,7 +209,7 @@ impl Signal {
         }
     }
 
-    // A release of the calling side (connection 0), the incumbent or the rerouting connection.
+    // A release of the node's own party (connection 0), the incumbent or the rerouting connection.
     pub fn release(kind: Kind, connection: u16, cause: SentCause, code: CauseCode) -> Signal
         ensures { λ r. ⌜ r ≡ releaseWith kind connection cause code ⌝ }
     {
@@ -219,7 +221,7 @@ impl Signal {
         }
     }
 
-    // A setup is rejected to the neighbour (6.2.7).
+    // A setup is rejected to the neighbour (6.2.7, 6.3.5).
     pub fn rejection(cause: ReroutingCause) -> Signal
         ensures { λ r. ⌜ r ≡ rejection cause ⌝ }
     {

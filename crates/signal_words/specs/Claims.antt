@@ -8,7 +8,7 @@ use Rattle.signal.specs.declared.CauseCode.{CauseCode}
 use Rattle.signal.specs.declared.CauseCode.the-variants.{Section66, CallRejected}
 use Rattle.signal.specs.declared.Kind.{Kind}
 use Rattle.signal.specs.declared.Kind.the-variants.{NoSignal, TimerStart, TimerStop, Switch, CallingRelease, IncumbentRelease}
-use Rattle.signal.specs.declared.Kind.the-variants.{ReroutingRelease, SetupRequest, ConnectRequest, Rejection}
+use Rattle.signal.specs.declared.Kind.the-variants.{ReroutingRelease, SetupRequest, ConnectRequest, Rejection, CalledRelease}
 use Rattle.signal.specs.declared.SentCause.{SentCause}
 use Rattle.signal.specs.declared.SentCause.the-variants.{Absent, Numbered, AsReceived}
 use Rattle.signal.specs.declared.Signal.{Signal}
@@ -26,7 +26,8 @@ sample signals shown = record { signals = places signals; shown = shown }
 abbrev pub signal : Kind → ℕ → SentCause → CauseCode → Signal
 signal kind connection cause code = record { kind = kind; connection = connection; cause = cause; code = code }
 
--- the ten kinds (01, "Signals"; decision 16), those that name a connection with one; the calling side, the timer and a reject have none
+-- the eleven kinds (01, "Signals"; 02, Ask 2; decision 16), those that name a connection with one; the two sides, the timer and a reject
+-- have none
 abbrev pub kinds : List Sample
 kinds =
     sample [] "-"
@@ -39,6 +40,7 @@ kinds =
     ∷ sample (signal SetupRequest 78 Absent Section66 ∷ []) "setup 78"
     ∷ sample (signal ConnectRequest 90 Absent Section66 ∷ []) "connect 90"
     ∷ sample (signal Rejection 0 Absent Section66 ∷ []) "reject"
+    ∷ sample (signal CalledRelease 0 Absent Section66 ∷ []) "release called"
     ∷ []
 
 -- the Rerouting cause absent, a number, or as received; then the Cause code where it is #21; and two signals parted by a comma

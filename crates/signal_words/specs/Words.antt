@@ -7,7 +7,7 @@ use Rattle.signal.specs.declared.CauseCode.{CauseCode}
 use Rattle.signal.specs.declared.CauseCode.the-variants.{Section66, CallRejected}
 use Rattle.signal.specs.declared.Kind.{Kind}
 use Rattle.signal.specs.declared.Kind.the-variants.{NoSignal, TimerStart, TimerStop, Switch, CallingRelease, IncumbentRelease}
-use Rattle.signal.specs.declared.Kind.the-variants.{ReroutingRelease, SetupRequest, ConnectRequest, Rejection}
+use Rattle.signal.specs.declared.Kind.the-variants.{ReroutingRelease, SetupRequest, ConnectRequest, Rejection, CalledRelease}
 use Rattle.signal.specs.declared.SentCause.{SentCause}
 use Rattle.signal.specs.declared.SentCause.the-variants.{Absent, Numbered, AsReceived}
 use Rattle.signal.specs.declared.Signal.{Signal}
@@ -23,6 +23,7 @@ isSent ReroutingRelease = true
 isSent SetupRequest = true
 isSent ConnectRequest = true
 isSent Rejection = true
+isSent CalledRelease = true
 
 -- what is sent, and on which connection
 abbrev pub kindText : Kind → ℕ → List ℕ
@@ -36,6 +37,7 @@ kindText ReroutingRelease n = ascii "release rerouting " ++ numberText n
 kindText SetupRequest n = ascii "setup " ++ numberText n
 kindText ConnectRequest n = ascii "connect " ++ numberText n
 kindText Rejection n = ascii "reject"
+kindText CalledRelease n = ascii "release called"
 
 -- the Rerouting cause: `#` by number, `=` as received
 abbrev pub sentCauseText : SentCause → List ℕ

@@ -24,6 +24,7 @@ fn sent(kind: Kind) -> bool
         Kind::SetupRequest => true,
         Kind::ConnectRequest => true,
         Kind::Rejection => true,
+        Kind::CalledRelease => true,
     }
 }
 
@@ -60,6 +61,7 @@ fn put_kind(out: &mut [u8], at: usize, kind: Kind, connection: u16) -> usize
         Kind::SetupRequest => put_numbered(out, at, b"setup ", number),
         Kind::ConnectRequest => put_numbered(out, at, b"connect ", number),
         Kind::Rejection => lines::put_word(out, at, b"reject"),
+        Kind::CalledRelease => lines::put_word(out, at, b"release called"),
     }
 }
 

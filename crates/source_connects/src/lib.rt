@@ -1,14 +1,12 @@
 // The rows of a connect for the rerouting connection (6.2.6), as direct code: each function returns the row of the page, carried out.
 ghost use mathlib.Core.Path.{_≡_};
-ghost use Rattle.rows.specs.declared.State.the-variants.{HardUnderway, SoftProceeding};
+ghost use Rattle.rows.specs.declared.State.the-variants.{HardUnderway};
 ghost use Rattle.source_connects.specs.Effects.{connectEffect};
+use events::Node;
 use rows::Effect;
 use rows::State;
 use signal::Answer;
-use signal::CauseCode;
 use signal::Kind;
-use signal::ReroutingCause;
-use signal::SentCause;
 use signal::Signal;
 
 // 6.2.6.1
@@ -27,36 +25,6 @@ fn hard_connect(connection: u16, agreed: bool, rerouting: u16) -> Effect
     Effect::refused(Answer::NotHeld, State::HardUnderway(rerouting))
 }
 
-// 6.2.6.2
-fn soft_connect(connection: u16, agreed: bool, incumbent: u16, rerouting: u16) -> Effect
-    ensures { λ r. ⌜ r ≡ connectEffect connection agreed (SoftProceeding incumbent rerouting) ⌝ }
-{
-    if connection == incumbent {
-        return Effect::refused(Answer::NotHeld, State::SoftProceeding(incumbent, rerouting));
-    }
-    if connection == rerouting {
-        if agreed {
-            let switch = Signal::naming(Kind::Switch, rerouting);
-            let cause = SentCause::Numbered(ReroutingCause::COMPLETE);
-            let other = Signal::release(
-                Kind::IncumbentRelease,
-                incumbent,
-                cause,
-                CauseCode::Section66,
-            );
-            return Effect::done(State::Idle(rerouting), switch, other, Signal::NONE);
-        }
-        let away = Signal::release(
-            Kind::ReroutingRelease,
-            rerouting,
-            SentCause::Absent,
-            CauseCode::CallRejected,
-        );
-        return Effect::done(State::Idle(incumbent), away, Signal::NONE, Signal::NONE);
-    }
-    Effect::refused(Answer::NotHeld, State::SoftProceeding(incumbent, rerouting))
-}
-
 pub fn connect_row(connection: u16, agreed: bool, state: State) -> Effect
     ensures { λ r. ⌜ r ≡ connectEffect connection agreed state ⌝ }
 {
@@ -67,7 +35,7 @@ pub fn connect_row(connection: u16, agreed: bool, state: State) -> Effect
         State::HardUnderway(rerouting) => hard_connect(connection, agreed, rerouting),
         State::SoftTriggered(_) => Effect::refused(Answer::NoMeaning, state),
         State::SoftProceeding(incumbent, rerouting) => {
-            soft_connect(connection, agreed, incumbent, rerouting)
+            shared_rows::soft_connect(Node::Source, connection, agreed, incumbent, rerouting)
         }
         State::SoftInitiated(_, _) => Effect::refused(Answer::NoMeaning, state),
         State::Awaiting(_, _) => Effect::refused(Answer::NoMeaning, state),

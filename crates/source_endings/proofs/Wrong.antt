@@ -14,14 +14,13 @@ use prog.Memory.{Memory}
 use prog.Routine.{Routine}
 use prog.Wp.{Heap}
 use Rattle.rows.specs.declared.Effect.{Effect}
-use Rattle.rows.specs.declared.State.the-variants.{Awaiting, HardUnderway, HardWaiting}
+use Rattle.rows.specs.declared.State.the-variants.{Awaiting, HardWaiting}
 use Rattle.rows.specs.declared.State.{State}
 use Rattle.signal.specs.Counting.{kindNumber}
 use Rattle.signal.specs.Signals.{none}
 use Rattle.signal.specs.declared.ReceivedCause.the-variants.{NoCause}
 use Rattle.signal.specs.declared.ReceivedCause.{ReceivedCause}
-use Rattle.source_endings.proofs.calling.calling_row as calling_row
-use Rattle.source_endings.proofs.expiry.expiry_row as expiry_row
+use Rattle.source_endings.proofs.calling_row as calling_row
 
 module _ {M : Type 1} (𝓤 : URA M) (H : Heap 𝓤) (A : Atoms 𝓤) (memory : Memory → SProp 𝓤) (run : Routine → Fun 𝓤) where
   -- it is false: the logic proves falsity from it
@@ -47,26 +46,6 @@ module _ {M : Type 1} (𝓤 : URA M) (H : Heap 𝓤) (A : Atoms 𝓤) (memory : 
       (r : Effect) → kindNumber (getD (r .signals) 1 none .kind) ≡ 0 →
       calling-row-shuts-out true NoCause (Awaiting 3 5) r
   calling-release-leaves-the-rerouting-connection r w =
-      fact-mono 𝓤 _ _ (λ h.
-      let z : _≡_ {A = ℕ} _ 0 = sym (ap (λ (r : Effect). kindNumber (getD (r .signals) 1 none .kind)) h) ∙ w in
-      omega arith)
-
-  -- expiry_row: of the state, what comes of expiry
-  abbrev expiry-row-shuts-out : State → Effect → Type 1
-  expiry-row-shuts-out state r = NeverHolds (expiry_row.clauses 𝓤 H A memory run tt (state, tt) .ensures tt r (state, tt))
-
-  -- a timer that expired is not stopped (01, "Signals")
-  pub expiry-stops-the-timer : (r : Effect) → kindNumber (getD (r .signals) 0 none .kind) ≡ 2 → expiry-row-shuts-out HardWaiting r
-  expiry-stops-the-timer r w =
-      fact-mono 𝓤 _ _ (λ h.
-      let z : _≡_ {A = ℕ} _ 2 = sym (ap (λ (r : Effect). kindNumber (getD (r .signals) 0 none .kind)) h) ∙ w in
-      omega arith)
-
-  -- the rerouting connection is released too
-  pub expiry-leaves-the-rerouting-connection :
-      (r : Effect) → kindNumber (getD (r .signals) 1 none .kind) ≡ 0 →
-      expiry-row-shuts-out (HardUnderway 5) r
-  expiry-leaves-the-rerouting-connection r w =
       fact-mono 𝓤 _ _ (λ h.
       let z : _≡_ {A = ℕ} _ 0 = sym (ap (λ (r : Effect). kindNumber (getD (r .signals) 1 none .kind)) h) ∙ w in
       omega arith)

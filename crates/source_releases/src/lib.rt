@@ -1,14 +1,14 @@
 // The rows of a release from the called side, for a connection (6.2.4), as direct code: each function returns the row of the page, carried
 // out.
 ghost use mathlib.Core.Path.{_≡_};
-ghost use Rattle.signal.specs.Signals.{none};
-ghost use Rattle.rows.specs.declared.State.the-variants.{Idle, HardUnderway, SoftProceeding, SoftInitiated, Awaiting};
+ghost use Rattle.rows.specs.declared.State.the-variants.{HardUnderway, SoftProceeding, SoftInitiated, Awaiting};
 ghost use Rattle.rows.specs.Cases.{classOf};
-ghost use Rattle.rows.specs.Effects.{doneIn, isNext};
-ghost use Rattle.source_rows.specs.Rows.{atSource, idleLost, hardAgain, hardAlternate, hardLost, softLost, softCrankback};
+ghost use Rattle.rows.specs.Effects.{isNext};
+ghost use Rattle.source_rows.specs.Rows.{atSource, hardAgain, hardAlternate, hardLost, softLost};
 ghost use Rattle.source_rows.specs.Rows.{initiatedLost, awaitingLost, awaitingDropped};
 ghost use Rattle.source_releases.specs.Effects.{calledEffect, idleCalled, initiatedCalled, awaitingCalled};
-ghost use Rattle.source_releases.specs.Effects.{toldOnly, toldBoth, hardEnded, toldAndReleased};
+ghost use Rattle.source_releases.specs.Effects.{toldBoth};
+use events::Node;
 use rows::Class;
 use rows::Effect;
 use rows::State;
@@ -22,53 +22,17 @@ use signal::ReroutingCause;
 use signal::SentCause;
 use signal::Signal;
 
-fn told_only(cause: SentCause) -> Effect
-    ensures { λ r. ⌜ r ≡ toldOnly cause ⌝ }
-{
-    let calling = Signal::release(Kind::CallingRelease, 0, cause, CauseCode::Section66);
-    Effect::done(State::Null, calling, Signal::NONE, Signal::NONE)
-}
-
+// The calling side and the rerouting connection are released with one cause.
 fn told_both(rerouting: u16, cause: SentCause) -> Effect
     ensures { λ r. ⌜ r ≡ toldBoth rerouting cause ⌝ }
 {
-    let calling = Signal::release(Kind::CallingRelease, 0, cause, CauseCode::Section66);
     let other = Signal::release(
         Kind::ReroutingRelease,
         rerouting,
         cause,
         CauseCode::Section66,
     );
-    Effect::done(State::Null, calling, other, Signal::NONE)
-}
-
-// 6.2.4.2 cases 3 and 4
-fn idle_lost(hard: bool, cause: ReceivedCause, incumbent: u16, next: Fresh) -> Effect
-    ensures { λ r. ⌜ r ≡ atSource (Idle incumbent) next cause (idleLost hard (classOf cause)) ⌝ }
-{
-    match rows::class_of(cause) {
-        Class::CameNone => {
-            if hard {
-                return Effect::done(
-                    State::HardWaiting,
-                    Signal::TIMER_START,
-                    Signal::NONE,
-                    Signal::NONE,
-                );
-            }
-            told_only(SentCause::Absent)
-        }
-        Class::CameOutside => told_only(cause.as_received()),
-        Class::CameComplete => told_only(SentCause::Numbered(ReroutingCause::NOT_RECOVERED)),
-        Class::CameOther => told_only(SentCause::Numbered(ReroutingCause::NOT_RECOVERED)),
-    }
-}
-
-fn hard_ended(cause: SentCause) -> Effect
-    ensures { λ r. ⌜ r ≡ hardEnded cause ⌝ }
-{
-    let calling = Signal::release(Kind::CallingRelease, 0, cause, CauseCode::Section66);
-    Effect::done(State::Null, Signal::TIMER_STOP, calling, Signal::NONE)
+    Effect::told(Node::Source, cause, other)
 }
 
 // 6.2.4.4 case 6, the node's choice: it tries again.
@@ -76,10 +40,11 @@ fn hard_again(cause: ReceivedCause, next: Fresh, rerouting: u16) -> Effect
     ensures { λ r. ⌜ r ≡ atSource (HardUnderway rerouting) next cause (hardAgain (isNext next)) ⌝ }
 {
     match next {
-        Fresh::Next(_) => {
-            Effect::done(State::HardWaiting, Signal::NONE, Signal::NONE, Signal::NONE)
-        }
-        Fresh::Spent => hard_ended(SentCause::Numbered(ReroutingCause::NOT_RECOVERED)),
+        Fresh::Next(_) => Effect::moved(State::HardWaiting),
+        Fresh::Spent => Effect::told_stopping(
+            Node::Source,
+            SentCause::Numbered(ReroutingCause::NOT_RECOVERED),
+        ),
     }
 }
 
@@ -90,15 +55,13 @@ fn hard_alternate(cause: ReceivedCause, next: Fresh, rerouting: u16) -> Effect
     match next {
         Fresh::Next(number) => {
             let setup = Signal::naming(Kind::SetupRequest, number);
-            Effect::given(
-                State::HardUnderway(number),
-                false,
-                setup,
-                Signal::NONE,
-                Signal::NONE,
-            )
+            let state = State::HardUnderway(number);
+            Effect::given(state, false, setup, Signal::NONE, Signal::NONE)
         }
-        Fresh::Spent => hard_ended(SentCause::Numbered(ReroutingCause::NOT_RECOVERED)),
+        Fresh::Spent => Effect::told_stopping(
+            Node::Source,
+            SentCause::Numbered(ReroutingCause::NOT_RECOVERED),
+        ),
     }
 }
 
@@ -112,12 +75,12 @@ fn hard_lost(cause: ReceivedCause, crankback: Crankback, next: Fresh, rerouting:
             match crankback {
                 Crankback::NoCrankback => hard_again(cause, next, rerouting),
                 Crankback::AlternateFound => hard_alternate(cause, next, rerouting),
-                Crankback::NoAlternate => hard_ended(failed),
+                Crankback::NoAlternate => Effect::told_stopping(Node::Source, failed),
             }
         }
-        Class::CameOutside => hard_ended(cause.as_received()),
-        Class::CameComplete => hard_ended(failed),
-        Class::CameOther => hard_ended(failed),
+        Class::CameOutside => Effect::told_stopping(Node::Source, cause.as_received()),
+        Class::CameComplete => Effect::told_stopping(Node::Source, failed),
+        Class::CameOther => Effect::told_stopping(Node::Source, failed),
     }
 }
 
@@ -156,48 +119,6 @@ fn soft_lost(
         }
     } else {
         told_both(rerouting, SentCause::Absent)
-    }
-}
-
-fn back_to_idle(incumbent: u16) -> Effect
-    ensures { λ r. ⌜ r ≡ doneIn (Idle incumbent) none none none ⌝ }
-{
-    Effect::done(
-        State::Idle(incumbent),
-        Signal::NONE,
-        Signal::NONE,
-        Signal::NONE,
-    )
-}
-
-// 6.2.4.6 cases 5 and 6
-fn soft_crankback(
-    cause: ReceivedCause,
-    crankback: Crankback,
-    next: Fresh,
-    incumbent: u16,
-    rerouting: u16,
-) -> Effect
-    ensures { λ r. ⌜ r ≡ atSource (SoftProceeding incumbent rerouting) next cause (softCrankback crankback (isNext next)) ⌝ }
-{
-    match crankback {
-        Crankback::NoCrankback => back_to_idle(incumbent),
-        Crankback::AlternateFound => {
-            match next {
-                Fresh::Next(number) => {
-                    let setup = Signal::naming(Kind::SetupRequest, number);
-                    Effect::given(
-                        State::SoftProceeding(incumbent, number),
-                        false,
-                        setup,
-                        Signal::NONE,
-                        Signal::NONE,
-                    )
-                }
-                Fresh::Spent => back_to_idle(incumbent),
-            }
-        }
-        Crankback::NoAlternate => back_to_idle(incumbent),
     }
 }
 
@@ -261,37 +182,23 @@ fn awaiting_lost(cause: ReceivedCause, incumbent: u16, rerouting: u16, next: Fre
     }
 }
 
-fn told_and_released(incumbent: u16, cause: SentCause) -> Effect
-    ensures { λ r. ⌜ r ≡ toldAndReleased incumbent cause ⌝ }
+// D19, the rerouting connection
+fn awaiting_dropped(cause: ReceivedCause, incumbent: u16, rerouting: u16, next: Fresh) -> Effect
+    ensures { λ r. ⌜ r ≡ atSource (Awaiting incumbent rerouting) next cause (awaitingDropped (classOf cause)) ⌝ }
 {
-    let calling = Signal::release(Kind::CallingRelease, 0, cause, CauseCode::Section66);
+    let outside = SentCause::Numbered(ReroutingCause::OUTSIDE);
+    let failed = SentCause::Numbered(ReroutingCause::NOT_RECOVERED);
     let other = Signal::release(
         Kind::IncumbentRelease,
         incumbent,
         SentCause::Absent,
         CauseCode::Section66,
     );
-    Effect::done(State::Null, calling, other, Signal::NONE)
-}
-
-// D19, the rerouting connection
-fn awaiting_dropped(cause: ReceivedCause, incumbent: u16, rerouting: u16, next: Fresh) -> Effect
-    ensures { λ r. ⌜ r ≡ atSource (Awaiting incumbent rerouting) next cause (awaitingDropped (classOf cause)) ⌝ }
-{
     match rows::class_of(cause) {
-        Class::CameNone => back_to_idle(incumbent),
-        Class::CameOutside => told_and_released(
-            incumbent,
-            SentCause::Numbered(ReroutingCause::OUTSIDE),
-        ),
-        Class::CameComplete => told_and_released(
-            incumbent,
-            SentCause::Numbered(ReroutingCause::NOT_RECOVERED),
-        ),
-        Class::CameOther => told_and_released(
-            incumbent,
-            SentCause::Numbered(ReroutingCause::NOT_RECOVERED),
-        ),
+        Class::CameNone => Effect::moved(State::Idle(incumbent)),
+        Class::CameOutside => Effect::told(Node::Source, outside, other),
+        Class::CameComplete => Effect::told(Node::Source, failed, other),
+        Class::CameOther => Effect::told(Node::Source, failed, other),
     }
 }
 
@@ -300,7 +207,7 @@ fn idle_called(hard: bool, connection: u16, cause: ReceivedCause, next: Fresh, i
     ensures { λ r. ⌜ r ≡ idleCalled hard connection cause next i ⌝ }
 {
     if connection == i {
-        return idle_lost(hard, cause, i, next);
+        return shared_rows::idle_lost(Node::Source, hard, cause, i, next);
     }
     Effect::refused(Answer::NotHeld, State::Idle(i))
 }
@@ -320,7 +227,7 @@ fn proceeding_called(
         return soft_lost(hard, cause, i, r, next);
     }
     if connection == r {
-        return soft_crankback(cause, crankback, next, i, r);
+        return shared_rows::soft_crankback(Node::Source, cause, crankback, next, i, r);
     }
     Effect::refused(Answer::NotHeld, State::SoftProceeding(i, r))
 }
@@ -339,7 +246,7 @@ fn initiated_called(
         return initiated_lost(hard, cause, i, r, next);
     }
     if connection == r {
-        return back_to_idle(i);
+        return Effect::moved(State::Idle(i));
     }
     Effect::refused(Answer::NotHeld, State::SoftInitiated(i, r))
 }
@@ -378,7 +285,7 @@ pub fn called_row(
         }
         State::SoftTriggered(i) => {
             if connection == i {
-                return told_only(SentCause::Absent);
+                return Effect::told(Node::Source, SentCause::Absent, Signal::NONE);
             }
             Effect::refused(Answer::NotHeld, state)
         }

@@ -1,7 +1,8 @@
 // The answers of path choice, 6.2.5.1 and 6.2.5.3.
 ghost use mathlib.Core.Path.{_≡_};
-ghost use Rattle.rows.specs.declared.State.the-variants.{HardWaiting, SoftTriggered};
+ghost use Rattle.rows.specs.declared.State.the-variants.{HardWaiting};
 ghost use Rattle.source_requests.specs.Effects.{pathEffect, noPathEffect};
+use events::Node;
 use rows::Effect;
 use rows::State;
 use signal::Answer;
@@ -16,34 +17,10 @@ fn hard_path(next: Fresh) -> Effect
     match next {
         Fresh::Next(number) => {
             let setup = Signal::naming(Kind::SetupRequest, number);
-            Effect::given(
-                State::HardUnderway(number),
-                false,
-                setup,
-                Signal::NONE,
-                Signal::NONE,
-            )
+            let state = State::HardUnderway(number);
+            Effect::given(state, false, setup, Signal::NONE, Signal::NONE)
         }
         Fresh::Spent => Effect::refused(Answer::NumbersSpent, State::HardWaiting),
-    }
-}
-
-// 6.2.5.3 case 1
-fn soft_path(next: Fresh, incumbent: u16) -> Effect
-    ensures { λ r. ⌜ r ≡ pathEffect next (SoftTriggered incumbent) ⌝ }
-{
-    match next {
-        Fresh::Next(number) => {
-            let setup = Signal::naming(Kind::SetupRequest, number);
-            Effect::given(
-                State::SoftProceeding(incumbent, number),
-                false,
-                setup,
-                Signal::NONE,
-                Signal::NONE,
-            )
-        }
-        Fresh::Spent => Effect::refused(Answer::NumbersSpent, State::SoftTriggered(incumbent)),
     }
 }
 
@@ -55,7 +32,7 @@ pub fn path_row(next: Fresh, state: State) -> Effect
         State::Idle(_) => Effect::refused(Answer::NoMeaning, state),
         State::HardWaiting => hard_path(next),
         State::HardUnderway(_) => Effect::refused(Answer::NoMeaning, state),
-        State::SoftTriggered(incumbent) => soft_path(next, incumbent),
+        State::SoftTriggered(incumbent) => shared_rows::soft_path(Node::Source, next, incumbent),
         State::SoftProceeding(_, _) => Effect::refused(Answer::NoMeaning, state),
         State::SoftInitiated(_, _) => Effect::refused(Answer::NoMeaning, state),
         State::Awaiting(_, _) => Effect::refused(Answer::NoMeaning, state),
@@ -68,16 +45,9 @@ pub fn no_path_row(state: State) -> Effect
     match state {
         State::Null => Effect::refused(Answer::NoMeaning, state),
         State::Idle(_) => Effect::refused(Answer::NoMeaning, state),
-        State::HardWaiting => Effect::done(state, Signal::NONE, Signal::NONE, Signal::NONE),
+        State::HardWaiting => Effect::moved(state),
         State::HardUnderway(_) => Effect::refused(Answer::NoMeaning, state),
-        State::SoftTriggered(incumbent) => {
-            Effect::done(
-                State::Idle(incumbent),
-                Signal::NONE,
-                Signal::NONE,
-                Signal::NONE,
-            )
-        }
+        State::SoftTriggered(incumbent) => Effect::moved(State::Idle(incumbent)),
         State::SoftProceeding(_, _) => Effect::refused(Answer::NoMeaning, state),
         State::SoftInitiated(_, _) => Effect::refused(Answer::NoMeaning, state),
         State::Awaiting(_, _) => Effect::refused(Answer::NoMeaning, state),

@@ -1,35 +1,27 @@
 -- What the documents ask of the source by case, and of a call and an event, is one thing (specs/Demands). Assumes nothing.
 use Prim.Native.Nat.{ℕ}
-use native.Mathlib.Omega.{arith}
 use mathlib.Core.Bool.{Bool, _&&_, _||_, cond, false, not, true}
 use mathlib.Core.List.{[], _∷_}
 use mathlib.Core.Path.{_∙_, _≡_, ap, refl}
 use lib.Dec.{eqb}
-use borrow.Author.Tests.{eqb-true}
 use Rattle.signal.specs.Causes.{inProgress, oldNumber, unsupported}
 use Rattle.signal.specs.Numbers.{hasSoft, hasSymmetric, isClearing, isLate}
-use Rattle.signal.specs.declared.ReceivedCause.{ReceivedCause}
-use Rattle.signal.specs.declared.ReceivedCause.the-variants.{NoCause, WithCause}
 use Rattle.signal.specs.declared.Soft.{Soft}
 use Rattle.signal.specs.declared.Switchover.{Switchover}
 use Rattle.events.specs.declared.Event.{Event}
 use Rattle.events.specs.declared.Event.the-variants.{Connect, Expiry, FromDomain, FromParty, NoPath, PathFound, Ready, Setup, Trigger}
-use Rattle.rows.proofs.Claims.{phase-exactly}
+use Rattle.rows.proofs.Read.{clearing-is, missing-is, number-is}
 use Rattle.rows.proofs.Signals.{hard-is}
 use Rattle.rows.proofs.Wanted.{is-first, its-incumbent, names-unheld}
-use Rattle.rows.specs.Cases.{AsksClearing, AsksImmediate, AsksOther, askingOf, asksClearing, cameNone, classOf, happeningOf, isIncumbent}
+use Rattle.rows.specs.Cases.{askingOf, happeningOf, isIncumbent}
 use Rattle.rows.specs.Cases.{isRerouting}
 use Rattle.rows.specs.Effects.{causesOf}
 use Rattle.rows.specs.Meaning.{Agrees}
 use Rattle.rows.specs.Rules.{Says5, Says6, Says8}
-use Rattle.rows.specs.States.{phaseNumber, phaseOf, stateNumber}
-use Rattle.rows.specs.declared.Class.the-variants.{CameComplete, CameOther, CameOutside}
+use Rattle.rows.specs.States.{phaseOf}
 use Rattle.rows.specs.declared.State.{State}
-use Rattle.source_rows.specs.Demands.{isBusy, hasNoCause, meaningless, meaninglessIn, rejectedFor, setupRejection, sourceDemands}
+use Rattle.source_rows.specs.Demands.{isBusy, meaningless, meaninglessIn, rejectedFor, setupRejection, sourceDemands}
 use Rattle.source_rows.specs.Demands.{sourceWants, turnsAway, turnsAwayIn}
-
-number-is : (s : State) → phaseNumber (phaseOf s) ≡ stateNumber s
-number-is = phase-exactly .read
 
 meaningless-is : (soft : Soft) (s : State) (remote : ℕ) (e : Event) →
     meaninglessIn (phaseOf s) soft (happeningOf s remote e) ≡ meaningless soft s e
@@ -42,19 +34,6 @@ meaningless-is soft s remote (FromParty cause) = ap (λ (n : ℕ). eqb n 0) (num
 meaningless-is soft s remote (FromDomain c cause crankback) = ap (λ (n : ℕ). eqb n 0) (number-is s)
 meaningless-is soft s remote Ready = ap (λ (n : ℕ). not (eqb n 6)) (number-is s)
 meaningless-is soft s remote Expiry = ap not (hard-is s)
-
-clearing-is : (code : Switchover) → asksClearing (askingOf code) ≡ isClearing code
-clearing-is code = by (eqb (code .code) 0) (eqb (code .code) 1) refl refl
-  where
-    by : (a b : Bool) → eqb (code .code) 0 ≡ a → eqb (code .code) 1 ≡ b →
-        asksClearing (cond a AsksImmediate (cond b AsksClearing AsksOther)) ≡ b
-    by true true p q =
-        let z : code .code ≡ 0 = eqb-true (code .code) 0 p in
-        let u : code .code ≡ 1 = eqb-true (code .code) 1 q in
-        absurd (omega arith)
-    by true false p q = refl
-    by false true p q = refl
-    by false false p q = refl
 
 rejected-is : (remote : ℕ) (s : State) (code : Switchover) (number : ℕ) →
     causesOf (rejectedFor (phaseOf s) (askingOf code) (isLate number remote)) ≡ setupRejection remote s code number
@@ -71,15 +50,6 @@ rejected-is remote s code number =
     by true false true = refl
     by true false false = refl
     by false b c = refl
-
-missing-is : (cause : ReceivedCause) → cameNone (classOf cause) ≡ hasNoCause cause
-missing-is NoCause = refl
-missing-is (WithCause k) = by (eqb (k .number) 1) (eqb (k .number) 4)
-  where
-    by : (a b : Bool) → cameNone (cond a CameOutside (cond b CameComplete CameOther)) ≡ false
-    by true b = refl
-    by false true = refl
-    by false false = refl
 
 turned-is : (hard : Bool) (s : State) (remote : ℕ) (e : Event) → turnsAwayIn (phaseOf s) hard (happeningOf s remote e) ≡ turnsAway hard s e
 turned-is hard s remote Trigger = refl

@@ -2,120 +2,113 @@
 -- elsewhere (specs/Elsewhere), which leave the page one row at every case (proofs/Only). Assumes nothing.
 use Prim.Native.Nat.{ℕ}
 use native.Mathlib.Omega.{arith}
-use mathlib.Core.Bool.{Bool, cond, false, true}
+use mathlib.Core.Bool.{cond, false, true}
 use mathlib.Core.Path.{_≡_, ap}
 use Rattle.signal.specs.declared.Crankback.the-variants.{AlternateFound, NoCrankback}
-use Rattle.signal.specs.declared.Soft.{Soft}
 use Rattle.signal.specs.declared.Soft.the-variants.{Asymmetric, Symmetric}
-use Rattle.rows.specs.Cases.{AsksClearing, AsksImmediate, Case, Connected, DomainReleased, Expired, FoundNone, Happening, NamesIncumbent}
+use Rattle.rows.proofs.NotTheRow.{NotTheRow, at}
+use Rattle.rows.specs.Cases.{AsksClearing, AsksImmediate, Connected, DomainReleased, Expired, FoundNone, NamesIncumbent}
 use Rattle.rows.specs.Cases.{NamesRerouting, PartyReleased, SaidReady, SetUp, Triggered}
-use Rattle.rows.specs.Every.{conj}
-use Rattle.rows.specs.Papers.{fixes}
-use Rattle.rows.specs.Rules.{NewNumber, NoSlot, OldIncumbent, OldRerouting, Rule, Says1, Says2, Says4, Says8, SaysAsCame, SendsConnect}
+use Rattle.rows.specs.Rules.{NewNumber, NoSlot, OldIncumbent, OldRerouting, Says1, Says2, Says4, Says8, SaysAsCame, SendsConnect}
 use Rattle.rows.specs.Rules.{SendsSetup, closed, dropping, ends, plainly, retiring, stays, stopping, storing, telling, to, with}
-use Rattle.rows.specs.States.{AtAwaiting, AtHardUnderway, AtHardWaiting, AtIdle, AtSoftInitiated, AtSoftProceeding, AtSoftTriggered, Phase}
+use Rattle.rows.specs.States.{AtAwaiting, AtHardUnderway, AtHardWaiting, AtIdle, AtSoftInitiated, AtSoftProceeding, AtSoftTriggered}
 use Rattle.rows.specs.declared.Class.the-variants.{CameComplete, CameNone, CameOther, CameOutside}
 use Rattle.source_rows.specs.Elsewhere.{sourcePapers}
-use Rattle.source_rows.specs.Rows.{backToIdle, bothReleased, newlyInitiated, rejects}
-
--- a rule that is not the row of a case, by the laws and the papers
-abbrev NotTheRow : Case → Rule → Type 0
-NotTheRow c rule = conj (fixes sourcePapers c rule) ≡ true → ⊥
-
--- a case: the state, the services, whether there is a next number, and what happens
-abbrev at : Phase → Bool → Soft → Bool → Happening → Case
-at phase hard soft room happening = record { phase = phase; hard = hard; soft = soft; room = room; happening = happening }
+use Rattle.source_rows.specs.Rows.{bothReleased}
+use Rattle.source_rows.specs.Shared.{backToIdle, newlyInitiated, rejects}
 
 -- without a number for the retry the call ends with #2 (01, the last sentence on releases; decision 3)
 pub alternate-at-65535-waits-for-the-timer :
-    NotTheRow (at AtHardUnderway true Symmetric false (DomainReleased NamesRerouting CameNone AlternateFound))
+    NotTheRow sourcePapers (at AtHardUnderway true Symmetric false (DomainReleased NamesRerouting CameNone AlternateFound))
     (to AtHardWaiting NoSlot NoSlot)
 alternate-at-65535-waits-for-the-timer h = let z : _≡_ {A = ℕ} 0 1 = ap (λ b. cond b 1 0) h in omega arith
 
 -- and so it does where the node would try again
 pub hard-reroute-goes-on-at-65535 :
-    NotTheRow (at AtHardUnderway true Symmetric false (DomainReleased NamesRerouting CameNone NoCrankback))
+    NotTheRow sourcePapers (at AtHardUnderway true Symmetric false (DomainReleased NamesRerouting CameNone NoCrankback))
     (to AtHardWaiting NoSlot NoSlot)
 hard-reroute-goes-on-at-65535 h = let z : _≡_ {A = ℕ} 0 1 = ap (λ b. cond b 1 0) h in omega arith
 
 -- a trigger in Idle moves to Soft Triggered with either soft service (01, "Soft trigger"; 6.2.5.3)
-pub asymmetric-call-disregards-every-trigger : NotTheRow (at AtIdle true Asymmetric true Triggered) (stays AtIdle)
+pub asymmetric-call-disregards-every-trigger : NotTheRow sourcePapers (at AtIdle true Asymmetric true Triggered) (stays AtIdle)
 asymmetric-call-disregards-every-trigger h = let z : _≡_ {A = ℕ} 0 1 = ap (λ b. cond b 1 0) h in omega arith
 
 -- #1 goes on without modification, so as received (6.2.4.2 case 3; decision 5)
 pub cause-1-sent-as-a-number-in-idle :
-    NotTheRow (at AtIdle true Symmetric true (DomainReleased NamesIncumbent CameOutside NoCrankback))
+    NotTheRow sourcePapers (at AtIdle true Symmetric true (DomainReleased NamesIncumbent CameOutside NoCrankback))
     (telling Says1 ends)
 cause-1-sent-as-a-number-in-idle h = let z : _≡_ {A = ℕ} 0 1 = ap (λ b. cond b 1 0) h in omega arith
 
 -- here 01 says "with #1", so the number (D17-5; decision 5)
 pub cause-1-sent-as-received-in-soft-proceeding :
-    NotTheRow (at AtSoftProceeding true Symmetric true (DomainReleased NamesIncumbent CameOutside NoCrankback))
+    NotTheRow sourcePapers (at AtSoftProceeding true Symmetric true (DomainReleased NamesIncumbent CameOutside NoCrankback))
     (bothReleased SaysAsCame)
 cause-1-sent-as-received-in-soft-proceeding h = let z : _≡_ {A = ℕ} 0 1 = ap (λ b. cond b 1 0) h in omega arith
 
 -- #4 in Awaiting switches over (01, "Faults seen on shelves"; B8)
 pub cause-4-in-awaiting-taken-as-other :
-    NotTheRow (at AtAwaiting true Symmetric true (DomainReleased NamesIncumbent CameComplete NoCrankback))
+    NotTheRow sourcePapers (at AtAwaiting true Symmetric true (DomainReleased NamesIncumbent CameComplete NoCrankback))
     (bothReleased Says2)
 cause-4-in-awaiting-taken-as-other h = let z : _≡_ {A = ℕ} 0 1 = ap (λ b. cond b 1 0) h in omega arith
 
 -- the calling side is released with #2 (01, "Timer expiry"; D20-1)
-pub expiry-with-cause-1 : NotTheRow (at AtHardWaiting true Symmetric true Expired) (telling Says1 ends)
+pub expiry-with-cause-1 : NotTheRow sourcePapers (at AtHardWaiting true Symmetric true Expired) (telling Says1 ends)
 expiry-with-cause-1 h = let z : _≡_ {A = ℕ} 0 1 = ap (λ b. cond b 1 0) h in omega arith
 
 -- with hard off a release without a cause goes on without one (01, "Release from the calling side"; 6.2.4.2 case 2)
-pub hard-off-passes-none-on-as-2 : NotTheRow (at AtIdle false Symmetric true (PartyReleased CameNone)) (retiring (with Says2) ends)
+pub hard-off-passes-none-on-as-2 :
+    NotTheRow sourcePapers (at AtIdle false Symmetric true (PartyReleased CameNone))
+    (retiring (with Says2) ends)
 hard-off-passes-none-on-as-2 h = let z : _≡_ {A = ℕ} 0 1 = ap (λ b. cond b 1 0) h in omega arith
 
 -- the release of the incumbent is as 6.2.4.8 says, without a Rerouting cause (decision 7)
 pub incumbent-released-with-2-in-awaiting :
-    NotTheRow (at AtAwaiting true Symmetric true (DomainReleased NamesRerouting CameOther NoCrankback))
+    NotTheRow sourcePapers (at AtAwaiting true Symmetric true (DomainReleased NamesRerouting CameOther NoCrankback))
     (telling Says2 (retiring (with Says2) ends))
 incumbent-released-with-2-in-awaiting h = let z : _≡_ {A = ℕ} 0 1 = ap (λ b. cond b 1 0) h in omega arith
 
 -- Hard Triggered stays and the timer decides (01, "No path")
-pub no-path-ends-the-hard-reroute : NotTheRow (at AtHardWaiting true Symmetric true FoundNone) (stopping (telling Says2 ends))
+pub no-path-ends-the-hard-reroute : NotTheRow sourcePapers (at AtHardWaiting true Symmetric true FoundNone) (stopping (telling Says2 ends))
 no-path-ends-the-hard-reroute h = let z : _≡_ {A = ℕ} 0 1 = ap (λ b. cond b 1 0) h in omega arith
 
 -- a setup rejected with #8 leaves the record as it was, its number too (01, "Faults seen on shelves"; B5)
 pub number-stored-before-the-code-is-tested :
-    NotTheRow (at AtIdle true Symmetric true (SetUp AsksImmediate false))
+    NotTheRow sourcePapers (at AtIdle true Symmetric true (SetUp AsksImmediate false))
     (storing (rejects Says8 AtIdle))
 number-stored-before-the-code-is-tested h = let z : _≡_ {A = ℕ} 0 1 = ap (λ b. cond b 1 0) h in omega arith
 
 -- row 5 releases the older rerouting connection, and names no Rerouting cause (01, "Setup"; B6; decision 11)
 pub older-setup-released-with-4 :
-    NotTheRow (at AtSoftInitiated true Symmetric true (SetUp AsksClearing false))
+    NotTheRow sourcePapers (at AtSoftInitiated true Symmetric true (SetUp AsksClearing false))
     (storing (dropping (with Says4) newlyInitiated))
 older-setup-released-with-4 h = let z : _≡_ {A = ℕ} 0 1 = ap (λ b. cond b 1 0) h in omega arith
 
 -- the connect goes out, and the call awaits switchover (01, "Ready"; B3)
 pub ready-leaves-it-initiated :
-    NotTheRow (at AtSoftInitiated true Symmetric true SaidReady)
+    NotTheRow sourcePapers (at AtSoftInitiated true Symmetric true SaidReady)
     (closed (SendsConnect OldRerouting) (to AtSoftInitiated OldIncumbent OldRerouting))
 ready-leaves-it-initiated h = let z : _≡_ {A = ℕ} 0 1 = ap (λ b. cond b 1 0) h in omega arith
 
 -- the incumbent stays the incumbent, and the new number is the rerouting connection (01, Soft Proceeding, rerouting; 6.2.4.6 case 5)
 pub soft-retry-exchanges-connections :
-    NotTheRow (at AtSoftProceeding true Symmetric true (DomainReleased NamesRerouting CameNone AlternateFound))
+    NotTheRow sourcePapers (at AtSoftProceeding true Symmetric true (DomainReleased NamesRerouting CameNone AlternateFound))
     (closed (SendsSetup NewNumber) (to AtSoftProceeding NewNumber OldIncumbent))
 soft-retry-exchanges-connections h = let z : _≡_ {A = ℕ} 0 1 = ap (λ b. cond b 1 0) h in omega arith
 
 -- 6.2.4.5 says only that 6.2.4.1 applies, which names no Rerouting cause (decision 1)
 pub soft-triggered-lost-with-2 :
-    NotTheRow (at AtSoftTriggered true Symmetric true (DomainReleased NamesIncumbent CameOther NoCrankback))
+    NotTheRow sourcePapers (at AtSoftTriggered true Symmetric true (DomainReleased NamesIncumbent CameOther NoCrankback))
     (telling Says2 ends)
 soft-triggered-lost-with-2 h = let z : _≡_ {A = ℕ} 0 1 = ap (λ b. cond b 1 0) h in omega arith
 
 -- 6.2.4.1 names #1 only where no cause came; where one came the release carries none (decision 1)
 pub soft-triggered-passes-a-cause-on-as-1 :
-    NotTheRow (at AtSoftTriggered true Symmetric true (PartyReleased CameOutside))
+    NotTheRow sourcePapers (at AtSoftTriggered true Symmetric true (PartyReleased CameOutside))
     (retiring (with Says1) ends)
 soft-triggered-passes-a-cause-on-as-1 h = let z : _≡_ {A = ℕ} 0 1 = ap (λ b. cond b 1 0) h in omega arith
 
 -- where policy says no the release carries Cause code #21 (01, "Connect"; 6.2.6.2)
 pub turned-away-without-code-21 :
-    NotTheRow (at AtSoftProceeding true Symmetric true (Connected NamesRerouting false))
+    NotTheRow sourcePapers (at AtSoftProceeding true Symmetric true (Connected NamesRerouting false))
     (dropping plainly backToIdle)
 turned-away-without-code-21 h = let z : _≡_ {A = ℕ} 0 1 = ap (λ b. cond b 1 0) h in omega arith

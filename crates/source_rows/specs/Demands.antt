@@ -3,38 +3,35 @@
 use Prim.Native.Nat.{ℕ}
 use mathlib.Core.Bool.{Bool, _&&_, _||_, cond, false, not, true}
 use mathlib.Core.List.{List, [], _∷_}
-use lib.Dec.{eqb}
 use Rattle.signal.specs.Causes.{inProgress, oldNumber, unsupported}
 use Rattle.signal.specs.Numbers.{hasSoft, hasSymmetric, isClearing, isLate}
-use Rattle.signal.specs.declared.ReceivedCause.{ReceivedCause}
-use Rattle.signal.specs.declared.ReceivedCause.the-variants.{NoCause, WithCause}
 use Rattle.signal.specs.declared.ReroutingCause.{ReroutingCause}
 use Rattle.signal.specs.declared.Soft.{Soft}
 use Rattle.signal.specs.declared.Switchover.{Switchover}
 use Rattle.events.specs.declared.Event.{Event}
 use Rattle.events.specs.declared.Event.the-variants.{Connect, Expiry, FromDomain, FromParty, NoPath, PathFound, Ready, Setup, Trigger}
+use Rattle.events.specs.declared.Node.the-variants.{Source}
 use Rattle.rows.specs.Cases.{Asking, Connected, DomainReleased, Expired, FoundNone, FoundPath, Happening, NamesIncumbent, PartyReleased}
 use Rattle.rows.specs.Cases.{SaidReady, SetUp, Triggered, asksClearing, cameNone}
-use Rattle.rows.specs.Checks.{Demands, isItsIncumbent, namesNotHeld}
-use Rattle.rows.specs.Effects.{SourceNode}
+use Rattle.rows.specs.Checks.{Demands, hasNoCause, isItsIncumbent, namesNotHeld}
 use Rattle.rows.specs.Laws.{Wants, namesUnheld, sameRole, sameSlot}
 use Rattle.rows.specs.Rules.{Closing, NoClosing, OldRerouting, Rejects, Rule, Saying, Says5, Says6, Says8, SendsConnect, SendsSetup}
-use Rattle.rows.specs.States.{Phase, holdsRerouting, isHard, isHardPhase, isNull, phaseNumber, stateNumber}
+use Rattle.rows.specs.States.{Phase, holdsRerouting, isAt, isHard, isHardPhase, isIn, isNull}
 use Rattle.rows.specs.declared.State.{State}
 
 -- ---- of a call and an event
 -- the two Triggered states, the two Proceeding states, Soft Initiated
 abbrev pub isTriggered : State → Bool
-isTriggered s = eqb (stateNumber s) 2 || eqb (stateNumber s) 4
+isTriggered s = isAt 2 s || isAt 4 s
 
 abbrev pub isProceeding : State → Bool
-isProceeding s = eqb (stateNumber s) 3 || eqb (stateNumber s) 5
+isProceeding s = isAt 3 s || isAt 5 s
 
 abbrev pub isInitiated : State → Bool
-isInitiated s = eqb (stateNumber s) 6
+isInitiated s = isAt 6 s
 
 abbrev pub isSoftProceeding : State → Bool
-isSoftProceeding s = eqb (stateNumber s) 5
+isSoftProceeding s = isAt 5 s
 
 -- 106: an event without meaning. A connect outside the two Proceeding states, a path answer outside the two Triggered states, "ready"
 -- outside Soft Initiated, timer expiry outside the two Hard states, a soft trigger with soft none, a setup without symmetric soft; and any
@@ -60,10 +57,6 @@ setupRejection remote s code number =
     cond (not (isClearing code)) (unsupported ∷ [])
     (cond (isLate number remote) (oldNumber ∷ []) (cond (isBusy s) (inProgress ∷ []) []))
 
-abbrev pub hasNoCause : ReceivedCause → Bool
-hasNoCause NoCause = true
-hasNoCause (WithCause k) = false
-
 -- Cause code #21 stands on the rerouting release of a connect answered no (6.2.6.2) and of D18's last line, and nowhere else
 abbrev pub turnsAway : Bool → State → Event → Bool
 turnsAway hard s Trigger = false
@@ -80,7 +73,7 @@ turnsAway hard s Expiry = false
 abbrev pub sourceDemands : Demands
 sourceDemands =
     record {
-      node = SourceNode;
+      node = Source;
       meaningless = λ x e. meaningless (x .soft) (x .state) e;
       rejected = λ x code number. setupRejection (x .remote) (x .state) code number;
       retired21 = λ x e. false;
@@ -89,9 +82,6 @@ sourceDemands =
     }
 
 -- ---- the same by case
-abbrev pub isIn : ℕ → Phase → Bool
-isIn n phase = eqb (phaseNumber phase) n
-
 abbrev pub waitsForPath : Phase → Bool
 waitsForPath phase = isIn 2 phase || isIn 4 phase
 
@@ -144,15 +134,3 @@ sendsConnect (Rejects say code) = false
 
 abbrev pub staysRerouting : Rule → Bool
 staysRerouting rule = not (sendsConnect (rule .closing)) || (holdsRerouting (rule .phase) && sameSlot (rule .rerouting) OldRerouting)
-
--- and a number is given only on a path found, by a setup, or over an alternate path
-abbrev pub mayGive : Happening → Bool
-mayGive Triggered = false
-mayGive FoundPath = true
-mayGive FoundNone = false
-mayGive (Connected role agreed) = false
-mayGive (SetUp asked late) = true
-mayGive (PartyReleased class) = false
-mayGive (DomainReleased role class crankback) = true
-mayGive SaidReady = false
-mayGive Expired = false

@@ -5,47 +5,27 @@
 -- release and names no Rerouting cause is silent on it (01, "Signals"). No entry: D12 (the states), D16-6, D17-9, D19-8, D21-4, D22-5,
 -- D25-17 (weights), D20-3 (what the Cause code's element holds), D23, D25-7 (quality of service), D25-1, D25-2 (the key is looked up
 -- before a call is met). Null has none: there every event is refused (decision 26). Assumes nothing.
-use Prim.Native.Nat.{ℕ}
 use mathlib.Core.Bool.{Bool, _&&_, _||_, false, not, true}
 use mathlib.Core.List.{List, [], _++_, _∷_}
 use lib.Dec.{eqb}
 use Rattle.signal.specs.Numbers.{hasSymmetric, softNumber}
 use Rattle.signal.specs.declared.Answer.{Answer}
-use Rattle.signal.specs.declared.CauseCode.the-variants.{Section66}
-use Rattle.signal.specs.declared.Crankback.{Crankback}
-use Rattle.signal.specs.declared.Crankback.the-variants.{AlternateFound, NoAlternate, NoCrankback}
 use Rattle.signal.specs.declared.Soft.{Soft}
-use Rattle.rows.specs.Cases.{Asking, AsksClearing, AsksImmediate, AsksOther, Case, Connected, DomainReleased, Expired, FoundNone}
-use Rattle.rows.specs.Cases.{FoundPath, Happening, NamesIncumbent, NamesOther, NamesRerouting, PartyReleased, Role, SaidReady, SetUp}
+use Rattle.rows.specs.Cases.{Asking, Case, Connected, DomainReleased, Expired, FoundNone}
+use Rattle.rows.specs.Cases.{FoundPath, Happening, NamesIncumbent, NamesRerouting, PartyReleased, Role, SaidReady, SetUp}
 use Rattle.rows.specs.Cases.{Triggered, asksClearing, cameNone}
-use Rattle.rows.specs.Laws.{firstAnswer, holdsRole, samePhase, sameRole}
+use Rattle.rows.specs.Laws.{samePhase}
 use Rattle.rows.specs.Papers.{Item, Papers}
-use Rattle.rows.specs.Rules.{Closing, NewNumber, NoClosing, OldRerouting, Rejects, Saying, Says1, Says2, Says4, Says5, Says6, Says8}
-use Rattle.rows.specs.Rules.{SaysAsCame, SendsConnect, SendsSetup, Told, Untold, isDone, plainly, turnedAway, with}
+use Rattle.rows.specs.Rules.{NoClosing, Says1, Says2, Says4, Says5, Says6, Says8}
+use Rattle.rows.specs.Rules.{SaysAsCame, Untold, plainly, turnedAway, with}
+use Rattle.rows.specs.Situations.{about, asksImmediate, asksUnrecognized, atLastNumber, came1, came4, cameAny, cameNeither, cameNot1}
+use Rattle.rows.specs.Situations.{cameNot4, cameSome, cell, checkedBy, closesBy, connectIn, connectionsGet, connectIsSent, crankedFound}
+use Rattle.rows.specs.Situations.{crankedIn, crankedLost, crankedNone, domainReleaseIn as calledIn, forNamed, goesTo, happensIn, hardOff}
+use Rattle.rows.specs.Situations.{hardOn, inBoth, incumbentGets, isLateSetup, isSoftSetup, partyAndReroutingGet as callingAndReroutingGet}
+use Rattle.rows.specs.Situations.{partyGets as callingGets, partyReleaseIn as callingIn, policyAny, policyYes, rejectedWith}
+use Rattle.rows.specs.Situations.{reroutingGets, setupCameIn, setupIsSent, isStoredBy, switchesBy, withRoom}
 use Rattle.rows.specs.States.{AtAwaiting, AtHardUnderway, AtHardWaiting, AtIdle, AtNull, AtSoftInitiated, AtSoftProceeding}
-use Rattle.rows.specs.States.{AtSoftTriggered, Phase, isHardPhase, isOver}
-use Rattle.rows.specs.declared.Class.{Class}
-use Rattle.rows.specs.declared.Class.the-variants.{CameComplete, CameNone, CameOther, CameOutside}
-
--- SITUATIONS: states and services
-abbrev pub inState : Phase → Case → Bool
-inState phase c = samePhase (c .phase) phase
-
-abbrev pub hardOn : Case → Bool
-hardOn c = c .hard
-
-abbrev pub hardOff : Case → Bool
-hardOff c = not (c .hard)
-
--- the last number is below 65,535, or is 65,535
-abbrev pub withRoom : Case → Bool
-withRoom c = c .room
-
-abbrev pub atLastNumber : Case → Bool
-atLastNumber c = not (c .room)
-
-abbrev pub inBoth : (Case → Bool) → (Case → Bool) → Case → Bool
-inBoth one other c = one c && other c
+use Rattle.rows.specs.States.{AtSoftTriggered, Phase, isHardPhase}
 
 -- the two Triggered states, the two Proceeding states (01, "Numbers of refusal")
 abbrev pub triggeredPhase : Phase → Bool
@@ -53,258 +33,6 @@ triggeredPhase phase = samePhase phase AtHardWaiting || samePhase phase AtSoftTr
 
 abbrev pub proceedingPhase : Phase → Bool
 proceedingPhase phase = samePhase phase AtHardUnderway || samePhase phase AtSoftProceeding
-
--- what came in a release
-abbrev pub cameAny : Class → Bool
-cameAny class = true
-
-abbrev pub cameSome : Class → Bool
-cameSome class = not (cameNone class)
-
-abbrev pub came1 : Class → Bool
-came1 CameNone = false
-came1 CameOutside = true
-came1 CameComplete = false
-came1 CameOther = false
-
-abbrev pub came4 : Class → Bool
-came4 CameNone = false
-came4 CameOutside = false
-came4 CameComplete = true
-came4 CameOther = false
-
--- a cause other than #1; other than #4; other than either
-abbrev pub cameNot1 : Class → Bool
-cameNot1 class = cameSome class && not (came1 class)
-
-abbrev pub cameNot4 : Class → Bool
-cameNot4 class = cameSome class && not (came4 class)
-
-abbrev pub cameNeither : Class → Bool
-cameNeither class = cameNot1 class && not (came4 class)
-
-abbrev pub crankedAny : Crankback → Bool
-crankedAny crankback = true
-
--- no Crankback element; one, and an alternate path is found; one, and none is
-abbrev pub crankedNone : Crankback → Bool
-crankedNone NoCrankback = true
-crankedNone AlternateFound = false
-crankedNone NoAlternate = false
-
-abbrev pub crankedFound : Crankback → Bool
-crankedFound NoCrankback = false
-crankedFound AlternateFound = true
-crankedFound NoAlternate = false
-
-abbrev pub crankedLost : Crankback → Bool
-crankedLost NoCrankback = false
-crankedLost AlternateFound = false
-crankedLost NoAlternate = true
-
--- events
-abbrev pub happeningNumber : Happening → ℕ
-happeningNumber Triggered = 1
-happeningNumber FoundPath = 2
-happeningNumber FoundNone = 3
-happeningNumber (Connected role agreed) = 4
-happeningNumber (SetUp asked late) = 5
-happeningNumber (PartyReleased class) = 6
-happeningNumber (DomainReleased role class crankback) = 7
-happeningNumber SaidReady = 8
-happeningNumber Expired = 9
-
--- one of the events without values, in a state
-abbrev pub happensIn : Happening → Phase → Case → Bool
-happensIn happening phase c = inState phase c && eqb (happeningNumber (c .happening)) (happeningNumber happening)
-
-abbrev pub isCalling : (Class → Bool) → Happening → Bool
-isCalling test Triggered = false
-isCalling test FoundPath = false
-isCalling test FoundNone = false
-isCalling test (Connected role agreed) = false
-isCalling test (SetUp asked late) = false
-isCalling test (PartyReleased class) = test class
-isCalling test (DomainReleased role class crankback) = false
-isCalling test SaidReady = false
-isCalling test Expired = false
-
-abbrev pub isCalled : Role → (Class → Bool) → (Crankback → Bool) → Happening → Bool
-isCalled named test cranked Triggered = false
-isCalled named test cranked FoundPath = false
-isCalled named test cranked FoundNone = false
-isCalled named test cranked (Connected role agreed) = false
-isCalled named test cranked (SetUp asked late) = false
-isCalled named test cranked (PartyReleased class) = false
-isCalled named test cranked (DomainReleased role class crankback) = sameRole role named && (test class && cranked crankback)
-isCalled named test cranked SaidReady = false
-isCalled named test cranked Expired = false
-
-abbrev pub isConnect : (Bool → Bool) → Happening → Bool
-isConnect policy Triggered = false
-isConnect policy FoundPath = false
-isConnect policy FoundNone = false
-isConnect policy (Connected role agreed) = sameRole role NamesRerouting && policy agreed
-isConnect policy (SetUp asked late) = false
-isConnect policy (PartyReleased class) = false
-isConnect policy (DomainReleased role class crankback) = false
-isConnect policy SaidReady = false
-isConnect policy Expired = false
-
-abbrev pub isSetup : (Asking → Bool → Bool) → Happening → Bool
-isSetup test Triggered = false
-isSetup test FoundPath = false
-isSetup test FoundNone = false
-isSetup test (Connected role agreed) = false
-isSetup test (SetUp asked late) = test asked late
-isSetup test (PartyReleased class) = false
-isSetup test (DomainReleased role class crankback) = false
-isSetup test SaidReady = false
-isSetup test Expired = false
-
--- a release from the direction of the calling party, by its cause; of the called party, for a connection, by cause and crankback, and by
--- cause alone
-abbrev pub callingIn : Phase → (Class → Bool) → Case → Bool
-callingIn phase test c = inState phase c && isCalling test (c .happening)
-
-abbrev pub crankedIn : Phase → Role → (Class → Bool) → (Crankback → Bool) → Case → Bool
-crankedIn phase named test cranked c = inState phase c && isCalled named test cranked (c .happening)
-
-abbrev pub calledIn : Phase → Role → (Class → Bool) → Case → Bool
-calledIn phase named test = crankedIn phase named test crankedAny
-
--- a connect for the rerouting connection, by what local policy says
-abbrev pub policyAny : Bool → Bool
-policyAny agreed = true
-
-abbrev pub policyYes : Bool → Bool
-policyYes agreed = agreed
-
-abbrev pub connectIn : Phase → (Bool → Bool) → Case → Bool
-connectIn phase policy c = inState phase c && isConnect policy (c .happening)
-
--- a setup, by the switchover that it asks for and whether its number is late
-abbrev pub asksImmediate : Asking → Bool
-asksImmediate AsksImmediate = true
-asksImmediate AsksClearing = false
-asksImmediate AsksOther = false
-
-abbrev pub asksUnrecognized : Asking → Bool
-asksUnrecognized AsksImmediate = false
-asksUnrecognized AsksClearing = false
-asksUnrecognized AsksOther = true
-
-abbrev pub setupCameIn : Phase → (Asking → Bool → Bool) → Case → Bool
-setupCameIn phase test c = inState phase c && isSetup test (c .happening)
-
--- a soft reroute setup indication: asked to switch at clearing, and turned away by no earlier question (D25-8)
-abbrev pub isSoftSetup : Asking → Bool → Bool
-isSoftSetup asked late = asksClearing asked && not late
-
--- asked to switch at clearing, by a number that is not greater than the one on record (D25-5; C-1, note 3)
-abbrev pub isLateSetup : Asking → Bool → Bool
-isLateSetup asked late = asksClearing asked && late
-
--- WORDS OF ITEMS: an item that is silent on all, and what it says, a word for each
-abbrev pub about : (Case → Bool) → Item
-about situation = record { speaks = situation; next = []; switches = []; closing = []; party = []; retires = []; drops = [] }
-
-abbrev pub goesTo : Phase → Item → Item
-goesTo phase item =
-    record {
-      speaks = item .speaks;
-      next = phase ∷ [];
-      switches = item .switches;
-      closing = item .closing;
-      party = item .party;
-      retires = item .retires;
-      drops = item .drops;
-    }
-
-abbrev pub switchesBy : Bool → Item → Item
-switchesBy switched item =
-    record {
-      speaks = item .speaks;
-      next = item .next;
-      switches = switched ∷ [];
-      closing = item .closing;
-      party = item .party;
-      retires = item .retires;
-      drops = item .drops;
-    }
-
-abbrev pub closesBy : Closing → Item → Item
-closesBy closing item =
-    record {
-      speaks = item .speaks;
-      next = item .next;
-      switches = item .switches;
-      closing = closing ∷ [];
-      party = item .party;
-      retires = item .retires;
-      drops = item .drops;
-    }
-
-abbrev pub callingGets : Told → Item → Item
-callingGets told item =
-    record {
-      speaks = item .speaks;
-      next = item .next;
-      switches = item .switches;
-      closing = item .closing;
-      party = told ∷ [];
-      retires = item .retires;
-      drops = item .drops;
-    }
-
-abbrev pub incumbentGets : Told → Item → Item
-incumbentGets told item =
-    record {
-      speaks = item .speaks;
-      next = item .next;
-      switches = item .switches;
-      closing = item .closing;
-      party = item .party;
-      retires = told ∷ [];
-      drops = item .drops;
-    }
-
-abbrev pub reroutingGets : Told → Item → Item
-reroutingGets told item =
-    record {
-      speaks = item .speaks;
-      next = item .next;
-      switches = item .switches;
-      closing = item .closing;
-      party = item .party;
-      retires = item .retires;
-      drops = told ∷ [];
-    }
-
--- both connections in the direction of the called party; the calling side and the rerouting connection
-abbrev pub connectionsGet : Told → Item → Item
-connectionsGet told item = incumbentGets told (reroutingGets told item)
-
-abbrev pub callingAndReroutingGet : Told → Item → Item
-callingAndReroutingGet told item = callingGets told (reroutingGets told item)
-
-abbrev pub setupIsSent : Item → Item
-setupIsSent = closesBy (SendsSetup NewNumber)
-
-abbrev pub connectIsSent : Item → Item
-connectIsSent = closesBy (SendsConnect OldRerouting)
-
--- rejected to the neighbour: the state stays (6.2.7.2; 01, "Setup"), and the Cause code is section 6.6's (6.2.7)
-abbrev pub rejectedWith : Saying → Phase → Item → Item
-rejectedWith say phase item = goesTo phase (closesBy (Rejects say Section66) item)
-
--- a cell of C-1: the table is of a call with hard service, and counts no numbers. B-1 prints the same next states in the states that it
--- has, so the soft service is not asked for
-abbrev pub isTabled : Case → Bool
-isTabled c = c .hard && c .room
-
-abbrev pub cell : Phase → (Case → Bool) → Item
-cell phase situation = goesTo phase (about (inBoth isTabled situation))
 
 -- THE CHECKS (01, "Numbers of refusal")
 abbrev pub hasNoSoft : Soft → Bool
@@ -322,46 +50,18 @@ isWithoutMeaning phase soft (DomainReleased role class crankback) = false
 isWithoutMeaning phase soft SaidReady = not (samePhase phase AtSoftInitiated)
 isWithoutMeaning phase soft Expired = not (isHardPhase phase)
 
--- 107: a connect or a called-side release for a connection not held, or a connect for the incumbent
-abbrev pub isForUnheld : Phase → Happening → Bool
-isForUnheld phase Triggered = false
-isForUnheld phase FoundPath = false
-isForUnheld phase FoundNone = false
-isForUnheld phase (Connected role agreed) = sameRole role NamesIncumbent || not (holdsRole phase role)
-isForUnheld phase (SetUp asked late) = false
-isForUnheld phase (PartyReleased class) = false
-isForUnheld phase (DomainReleased role class crankback) = not (holdsRole phase role)
-isForUnheld phase SaidReady = false
-isForUnheld phase Expired = false
-
 -- a setup that none of the three rejections meets: #8, #5, and #6 in a Triggered or a Proceeding state (01, "Setup", 1 to 3; decision 11)
 abbrev pub isAcceptable : Phase → Asking → Bool → Bool
 isAcceptable phase asked late = isSoftSetup asked late && not (triggeredPhase phase || proceedingPhase phase)
 
--- 108 at 65,535: what would take a number, a path that is found or a setup that would otherwise be accepted
-abbrev pub takesNumber : Phase → Happening → Bool
-takesNumber phase Triggered = false
-takesNumber phase FoundPath = true
-takesNumber phase FoundNone = false
-takesNumber phase (Connected role agreed) = false
-takesNumber phase (SetUp asked late) = isAcceptable phase asked late
-takesNumber phase (PartyReleased class) = false
-takesNumber phase (DomainReleased role class crankback) = false
-takesNumber phase SaidReady = false
-takesNumber phase Expired = false
-
 -- in that order; in Null always 106 (decision 26)
 abbrev pub checked : Case → Answer
-checked c =
-    firstAnswer
-    (isOver (c .phase) || isWithoutMeaning (c .phase) (c .soft) (c .happening))
-    (isForUnheld (c .phase) (c .happening))
-    (takesNumber (c .phase) (c .happening) && not (c .room))
+checked = checkedBy (λ c. isWithoutMeaning (c .phase) (c .soft) (c .happening)) isAcceptable
 
 -- 01, "Setup": an accepted setup stores its number, and no other does. D25-6 and 6.2.7 store a greater number also where the setup is
 -- then rejected with #6 (D25-6 to the letter with #8 too): 01 departs from that, and an item has no word for it.
 abbrev pub isStored : Case → Bool
-isStored c = isDone (checked c) && isSetup (isAcceptable (c .phase)) (c .happening)
+isStored = isStoredBy checked isAcceptable
 
 -- SOFT TRIGGER, in any state but Idle
 abbrev pub disregards : Phase → List Item
@@ -763,12 +463,6 @@ awaitedRerouting =
     -- C-1, Rel Cld R.RC (Snp 7)
     ∷ cell AtNull (calledIn AtAwaiting NamesRerouting cameSome)
     ∷ []
-
--- by the connection that the release is for
-abbrev pub forNamed : Role → List Item → List Item → List Item
-forNamed NamesIncumbent incumbent rerouting = incumbent
-forNamed NamesRerouting incumbent rerouting = rerouting
-forNamed NamesOther incumbent rerouting = []
 
 abbrev pub calledReleases : Phase → Role → List Item
 calledReleases AtNull named = []

@@ -1,3 +1,4 @@
+pub mod Shared
 pub mod Rows
 pub mod Demands
 pub mod Elsewhere

@@ -1,48 +1,38 @@
--- The rows of the source node (6.2), the whole table: for each event, what is done in each state. To be held against 01, "Events and rows",
--- and sections 6.2.4 to 6.2.7; "decision N" is a point of docs/DECISIONS.md. The states have the source's own names; the party is the
--- calling one, and the release from across the domain is the called side's. A clause that refuses names 106, 107 or 108 (01, "Numbers of
--- refusal"). Assumes nothing.
-use Prim.Native.Nat.{_+_}
-use mathlib.Core.Bool.{Bool, cond, true}
+-- The rows of the source node (6.2), the whole table: for each event, what is done in each state; what is the same at both ends stands in
+-- Shared. To be held against 01, "Events and rows", and sections 6.2.4 to 6.2.7; "decision N" is a point of docs/DECISIONS.md. The states
+-- have the source's own names; the party is the calling one, and the release from across the domain is the called side's. A clause that
+-- refuses names 106, 107 or 108 (01, "Numbers of refusal"). Assumes nothing.
+use mathlib.Core.Bool.{Bool, cond}
 use Rattle.signal.specs.declared.Answer.the-variants.{NoMeaning, NotHeld, NumbersSpent}
-use Rattle.signal.specs.declared.CauseCode.the-variants.{Section66}
 use Rattle.signal.specs.declared.Crankback.{Crankback}
 use Rattle.signal.specs.declared.Crankback.the-variants.{AlternateFound, NoAlternate, NoCrankback}
 use Rattle.signal.specs.declared.Fresh.{Fresh}
 use Rattle.signal.specs.declared.ReceivedCause.{ReceivedCause}
 use Rattle.signal.specs.declared.Soft.{Soft}
 use Rattle.signal.specs.declared.Soft.the-variants.{Asymmetric, NoSoft, Symmetric}
-use Rattle.events.specs.Events.{receivedIn}
 use Rattle.events.specs.declared.Event.{Event}
+use Rattle.events.specs.declared.Node.the-variants.{Source}
 use Rattle.rows.specs.Cases.{Asking, AsksClearing, AsksImmediate, AsksOther, Case, Connected, DomainReleased, Expired, FoundNone}
-use Rattle.rows.specs.Cases.{FoundPath, Happening, PartyReleased, Role, SaidReady, SetUp, Standing, Triggered, caseOf}
-use Rattle.rows.specs.Effects.{SourceNode, effect, nextNumber}
-use Rattle.rows.specs.Rules.{NewNumber, NoSlot, OldIncumbent, OldRerouting, Rejects, Rule, Saying, Says1, Says2, Says4, Says5, Says6}
-use Rattle.rows.specs.Rules.{Says8, SaysAsCame, SaysNothing, SendsConnect, SendsSetup, closed, dropping, ends, ofEither, ofIncumbent}
-use Rattle.rows.specs.Rules.{ofRerouting, plainly, refuses, retiring, starting, stays, stopping, storing, switching, telling, to}
+use Rattle.rows.specs.Cases.{FoundPath, Happening, PartyReleased, Role, SaidReady, SetUp, Standing, Triggered}
+use Rattle.rows.specs.Effects.{carriedAt}
+use Rattle.rows.specs.Page.{doneBy}
+use Rattle.rows.specs.Rules.{NewNumber, NoSlot, OldRerouting, Rule, Saying, Says1, Says2, Says6}
+use Rattle.rows.specs.Rules.{SaysAsCame, SaysNothing, SendsSetup, closed, dropping, ends, ofEither, ofIncumbent}
+use Rattle.rows.specs.Rules.{ofRerouting, plainly, refuses, retiring, starting, stays, stopping, switching, telling, to}
 use Rattle.rows.specs.Rules.{turnedAway, with}
 use Rattle.rows.specs.States.{Phase}
 use Rattle.rows.specs.declared.Class.{Class}
 use Rattle.rows.specs.declared.Class.the-variants.{CameComplete, CameNone, CameOther, CameOutside}
 use Rattle.rows.specs.declared.Effect.{Effect}
 use Rattle.rows.specs.declared.State.{State}
+use Rattle.source_rows.specs.Shared.{accepted, backToIdle, expiryRow, idleLost, inCall, newlyInitiated, partyRow, rejectedOld}
+use Rattle.source_rows.specs.Shared.{rejectedUnsupported, rejects, softConnected, softCrankback, softPath, softReady, triggerIn}
 use Rattle.rows.specs.States.{AtNull as Null, AtIdle as Idle, AtHardWaiting as HardTriggered, AtHardUnderway as HardProceeding}
 use Rattle.rows.specs.States.{AtSoftTriggered as SoftTriggered, AtSoftProceeding as SoftProceeding}
 use Rattle.rows.specs.States.{AtSoftInitiated as SoftInitiated, AtAwaiting as Awaiting}
 
 -- ---- soft trigger (6.2.5.3)
--- Idle moves to Soft Triggered; any other state disregards the trigger, answer 0 (01); in Null it has no meaning (decision 26)
-abbrev pub triggerIn : Phase → Rule
-triggerIn Null = refuses NoMeaning Null
-triggerIn Idle = to SoftTriggered OldIncumbent NoSlot
-triggerIn HardTriggered = stays HardTriggered
-triggerIn HardProceeding = stays HardProceeding
-triggerIn SoftTriggered = stays SoftTriggered
-triggerIn SoftProceeding = stays SoftProceeding
-triggerIn SoftInitiated = stays SoftInitiated
-triggerIn Awaiting = stays Awaiting
-
--- with soft none it has no meaning, in every state (decision 9)
+-- with a soft service as at either end; with soft none it has no meaning, in every state (decision 9)
 abbrev pub triggerRow : Phase → Soft → Rule
 triggerRow phase NoSoft = refuses NoMeaning phase
 triggerRow phase Asymmetric = triggerIn phase
@@ -57,15 +47,10 @@ pathRow Idle room = refuses NoMeaning Idle
 pathRow HardTriggered room =
     cond room (closed (SendsSetup NewNumber) (to HardProceeding NoSlot NewNumber)) (refuses NumbersSpent HardTriggered)
 pathRow HardProceeding room = refuses NoMeaning HardProceeding
-pathRow SoftTriggered room =
-    cond room (closed (SendsSetup NewNumber) (to SoftProceeding OldIncumbent NewNumber)) (refuses NumbersSpent SoftTriggered)
+pathRow SoftTriggered room = softPath room
 pathRow SoftProceeding room = refuses NoMeaning SoftProceeding
 pathRow SoftInitiated room = refuses NoMeaning SoftInitiated
 pathRow Awaiting room = refuses NoMeaning Awaiting
-
--- the soft reroute is given up, and the incumbent stays (01, "No path"; 6.2.4.6 case 6)
-abbrev pub backToIdle : Rule
-backToIdle = to Idle OldIncumbent NoSlot
 
 -- Soft Triggered goes to Idle; Hard Triggered stays, and the timer decides
 abbrev pub noPathRow : Phase → Rule
@@ -83,11 +68,6 @@ noPathRow Awaiting = refuses NoMeaning Awaiting
 abbrev pub hardConnected : Rule
 hardConnected = stopping (switching OldRerouting (to Idle OldRerouting NoSlot))
 
--- Soft Proceeding (6.2.6.2). Policy no: the rerouting connection is released with code #21. Yes: switch, the incumbent is released with #4
-abbrev pub softConnected : Bool → Rule
-softConnected agreed =
-    cond agreed (switching OldRerouting (retiring (with Says4) (to Idle OldRerouting NoSlot))) (dropping turnedAway backToIdle)
-
 -- outside the Proceeding states 106; another connection than the rerouting one 107
 abbrev pub connectRow : Phase → Role → Bool → Rule
 connectRow Null role agreed = refuses NoMeaning Null
@@ -100,31 +80,11 @@ connectRow SoftInitiated role agreed = refuses NoMeaning SoftInitiated
 connectRow Awaiting role agreed = refuses NoMeaning Awaiting
 
 -- ---- setup (01, "Setup", rows 1 to 5; 6.2.7)
--- what a rejected setup leaves: the record as it was (01), for each of the three reasons
-abbrev pub rejects : Saying → Phase → Rule
-rejects say phase = closed (Rejects say Section66) (stays phase)
-
--- row 1
-abbrev pub rejectedUnsupported : Phase → Rule
-rejectedUnsupported phase = rejects Says8 phase
-
--- row 2
-abbrev pub rejectedOld : Phase → Rule
-rejectedOld phase = rejects Says5 phase
-
--- row 3
+-- row 3; rows 1 and 2 are those of either end
 abbrev pub rejectedInProgress : Phase → Rule
 rejectedInProgress phase = rejects Says6 phase
 
--- an accepted setup stores its number; 108 where there is no number for its connection (decision 11)
-abbrev pub accepted : Bool → Phase → Rule → Rule
-accepted room phase row = cond room (storing row) (refuses NumbersSpent phase)
-
--- row 4: a new rerouting connection
-abbrev pub newlyInitiated : Rule
-newlyInitiated = to SoftInitiated OldIncumbent NewNumber
-
--- row 5: the older one is released on its own number, and then as row 4 (6.2.7.6; decision 11)
+-- row 5: the older one is released on its own number, and then as row 4, a new rerouting connection (6.2.7.6; decision 11)
 abbrev pub initiatedAgain : Rule
 initiatedAgain = dropping plainly newlyInitiated
 
@@ -145,17 +105,6 @@ setupAsked AsksImmediate late phase room = rejectedUnsupported phase
 setupAsked AsksClearing late phase room = cond late (rejectedOld phase) (setupIn phase room)
 setupAsked AsksOther late phase room = rejectedUnsupported phase
 
--- in Null every event is refused, whatever it carries (decision 26)
-abbrev pub inCall : Phase → Rule → Rule
-inCall Null row = refuses NoMeaning Null
-inCall Idle row = row
-inCall HardTriggered row = row
-inCall HardProceeding row = row
-inCall SoftTriggered row = row
-inCall SoftProceeding row = row
-inCall SoftInitiated row = row
-inCall Awaiting row = row
-
 -- without symmetric soft a setup has no meaning (106; decision 13)
 abbrev pub setupRow : Phase → Soft → Bool → Asking → Bool → Rule
 setupRow phase NoSoft room asked late = refuses NoMeaning phase
@@ -171,29 +120,10 @@ readyRow HardTriggered = refuses NoMeaning HardTriggered
 readyRow HardProceeding = refuses NoMeaning HardProceeding
 readyRow SoftTriggered = refuses NoMeaning SoftTriggered
 readyRow SoftProceeding = refuses NoMeaning SoftProceeding
-readyRow SoftInitiated = closed (SendsConnect OldRerouting) (to Awaiting OldIncumbent OldRerouting)
+readyRow SoftInitiated = softReady
 readyRow Awaiting = refuses NoMeaning Awaiting
 
--- ---- timer expiry (6.2.5.2)
--- the calling side is released with #2; in Hard Proceeding the rerouting connection too; outside the Hard states 106
-abbrev pub expiryRow : Phase → Rule
-expiryRow Null = refuses NoMeaning Null
-expiryRow Idle = refuses NoMeaning Idle
-expiryRow HardTriggered = telling Says2 ends
-expiryRow HardProceeding = telling Says2 (dropping (with Says2) ends)
-expiryRow SoftTriggered = refuses NoMeaning SoftTriggered
-expiryRow SoftProceeding = refuses NoMeaning SoftProceeding
-expiryRow SoftInitiated = refuses NoMeaning SoftInitiated
-expiryRow Awaiting = refuses NoMeaning Awaiting
-
 -- ---- release from the calling side (01; 6.2.4.2 to 6.2.4.8)
--- a cause is passed unmodified; none becomes #1 where hard is on (6.2.4.2 cases 1 and 2, 6.2.4.6 likewise; D18-1 to 3, D19-1 to 3)
-abbrev pub passing : Bool → Class → Saying
-passing hard CameNone = cond hard Says1 SaysNothing
-passing hard CameOutside = SaysAsCame
-passing hard CameComplete = SaysAsCame
-passing hard CameOther = SaysAsCame
-
 -- Soft Triggered: 6.2.4.5 says only that 6.2.4.1 applies, so #1 where hard is on and none came, and else none (decision 1)
 abbrev pub softTriggeredPassing : Bool → Class → Saying
 softTriggeredPassing hard CameNone = cond hard Says1 SaysNothing
@@ -201,30 +131,11 @@ softTriggeredPassing hard CameOutside = SaysNothing
 softTriggeredPassing hard CameComplete = SaysNothing
 softTriggeredPassing hard CameOther = SaysNothing
 
--- both held connections are released with one cause
-abbrev pub bothEnded : Saying → Rule
-bothEnded say = retiring (with say) (dropping (with say) ends)
-
--- every call ends. The Hard states never read the hard service (decision 6)
+-- in every other state as at either end
 abbrev pub callingRow : Phase → Bool → Class → Rule
-callingRow Null hard class = refuses NoMeaning Null
-callingRow Idle hard class = retiring (with (passing hard class)) ends
-callingRow HardTriggered hard class = stopping ends
-callingRow HardProceeding hard class = stopping (dropping (with (passing true class)) ends)
-callingRow SoftTriggered hard class = retiring (with (softTriggeredPassing hard class)) ends
-callingRow SoftProceeding hard class = bothEnded (passing hard class)
-callingRow SoftInitiated hard class = bothEnded (passing hard class)
-callingRow Awaiting hard class = bothEnded (passing hard class)
+callingRow phase hard class = partyRow (softTriggeredPassing hard class) phase hard class
 
 -- ---- release from the called side, for a connection (01; 6.2.4.2 to 6.2.4.8)
--- Idle. None and hard on: timer start, Hard Triggered (6.2.4.2 case 4); else the calling side: #1 as received, another #2, none absent
--- (case 3; decisions 5 and 6)
-abbrev pub idleLost : Bool → Class → Rule
-idleLost hard CameNone = cond hard (starting (to HardTriggered NoSlot NoSlot)) (telling SaysNothing ends)
-idleLost hard CameOutside = telling SaysAsCame ends
-idleLost hard CameComplete = telling Says2 ends
-idleLost hard CameOther = telling Says2 ends
-
 -- the hard reroute is given up: 6.2.4.4 case 5
 abbrev pub hardGivenUp : Rule
 hardGivenUp = stopping (telling Says2 ends)
@@ -267,13 +178,6 @@ softLostHardOn CameOther = bothReleased Says2
 
 abbrev pub softLost : Bool → Class → Rule
 softLost hard class = cond hard (softLostHardOn class) (bothReleased SaysNothing)
-
--- Soft Proceeding, the rerouting connection: crankback alone decides (01; 6.2.4.6 cases 5 and 6; decision 8)
-abbrev pub softCrankback : Crankback → Bool → Rule
-softCrankback NoCrankback room = backToIdle
-softCrankback AlternateFound room =
-    cond room (closed (SendsSetup NewNumber) (to SoftProceeding OldIncumbent NewNumber)) backToIdle
-softCrankback NoAlternate room = backToIdle
 
 -- Soft Initiated, the incumbent (01; D18-4 to 7): as Soft Proceeding, but none: timer start, rerouting released with code #21, Hard
 -- Triggered
@@ -326,10 +230,10 @@ rowIn phase hard soft room Expired = expiryRow phase
 abbrev pub sourceRow : Case → Rule
 sourceRow c = rowIn (c .phase) (c .hard) (c .soft) (c .room) (c .happening)
 
--- a rule, carried out at the source in a state, with the next number as the code has it; `Spent` where the event gives none
+-- a rule, carried out at the source
 abbrev pub atSource : State → Fresh → ReceivedCause → Rule → Effect
-atSource s next cause rule = effect SourceNode s (nextNumber next) cause rule
+atSource = carriedAt Source
 
 -- what an event does to a call: the row of its case, carried out
 abbrev pub sourceEffect : Standing → Event → Effect
-sourceEffect x e = effect SourceNode (x .state) (x .last + 1) (receivedIn e) (sourceRow (caseOf x e))
+sourceEffect = doneBy Source sourceRow

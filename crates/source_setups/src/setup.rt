@@ -5,12 +5,13 @@ ghost use Rattle.signal.specs.Numbers.{isLate};
 ghost use mathlib.Core.Bool.{true};
 ghost use Rattle.signal.specs.declared.Kind.the-variants.{ReroutingRelease};
 ghost use Rattle.signal.specs.declared.SentCause.the-variants.{Absent};
-ghost use Rattle.signal.specs.Signals.{none, rejection, releaseOf};
+ghost use Rattle.signal.specs.Signals.{none, releaseOf};
 ghost use Rattle.rows.specs.declared.State.the-variants.{SoftInitiated};
 ghost use Rattle.rows.specs.Cases.{askingOf};
-ghost use Rattle.rows.specs.Effects.{isNext, doneIn, givenIn};
+ghost use Rattle.rows.specs.Effects.{isNext, givenIn};
 ghost use Rattle.rows.specs.States.{phaseOf};
-ghost use Rattle.source_rows.specs.Rows.{atSource, setupIn, setupAsked, inCall};
+ghost use Rattle.source_rows.specs.Rows.{atSource, setupIn, setupAsked};
+ghost use Rattle.source_rows.specs.Shared.{inCall};
 ghost use Rattle.source_setups.specs.Effects.{setupEffect};
 use rows::Effect;
 use rows::State;
@@ -23,13 +24,6 @@ use signal::SentCause;
 use signal::Signal;
 use signal::Soft;
 use signal::Switchover;
-
-// Rows 1 to 3: a rejection to the neighbour, which leaves the call as it is.
-fn rejected(cause: ReroutingCause, state: State) -> Effect
-    ensures { λ r. ⌜ r ≡ doneIn state (rejection cause) none none ⌝ }
-{
-    Effect::done(state, Signal::rejection(cause), Signal::NONE, Signal::NONE)
-}
 
 // Row 4: a new rerouting connection; and row 5: the older one is released on its own number.
 fn accepted(incumbent: u16, rerouting: u16, sent: Signal) -> Effect
@@ -66,10 +60,10 @@ fn setup_in(next: Fresh, state: State) -> Effect
                 Fresh::Spent => Effect::refused(Answer::NumbersSpent, state),
             }
         }
-        State::HardWaiting => rejected(ReroutingCause::IN_PROGRESS, state),
-        State::HardUnderway(_) => rejected(ReroutingCause::IN_PROGRESS, state),
-        State::SoftTriggered(_) => rejected(ReroutingCause::IN_PROGRESS, state),
-        State::SoftProceeding(_, _) => rejected(ReroutingCause::IN_PROGRESS, state),
+        State::HardWaiting => Effect::rejected(ReroutingCause::IN_PROGRESS, state),
+        State::HardUnderway(_) => Effect::rejected(ReroutingCause::IN_PROGRESS, state),
+        State::SoftTriggered(_) => Effect::rejected(ReroutingCause::IN_PROGRESS, state),
+        State::SoftProceeding(_, _) => Effect::rejected(ReroutingCause::IN_PROGRESS, state),
         State::SoftInitiated(i, r) => {
             match next {
                 Fresh::Next(n) => accepted(i, n, older_released(r)),
@@ -91,11 +85,11 @@ fn setup_checked(code: Switchover, number: u32, remote: u32, next: Fresh, state:
 {
     if code.clearing() {
         if signal::late(number, remote) {
-            return rejected(ReroutingCause::OLD_NUMBER, state);
+            return Effect::rejected(ReroutingCause::OLD_NUMBER, state);
         }
         return setup_in(next, state);
     }
-    rejected(ReroutingCause::UNSUPPORTED, state)
+    Effect::rejected(ReroutingCause::UNSUPPORTED, state)
 }
 
 // In Null no event has a meaning.

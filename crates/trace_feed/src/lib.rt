@@ -1,10 +1,12 @@
-// Event records from standard input, and their lines to standard output, as they come: the programs `trace` and `watch`.
+// Event records from standard input, and their lines to standard output, as they come: the programs `trace`
+// and `watch`, and those of the destination.
 //
 // What a record does, and every byte of its line, stands in trace_run; here is reading and writing. Each read is answered before the next,
 // so that a live feed shows at once.
 ghost use mathlib.Core.Path.{_≡_};
 ghost use lib.ListN.{length};
 use call::Call;
+use events::Node;
 use libc::STDERR_FILENO;
 use libc::STDIN_FILENO;
 use libc::STDOUT_FILENO;
@@ -40,7 +42,7 @@ fn show(out: &[u8], length: usize, name: &[u8]) -> bool {
 
 // Until the input ends, a record is bad, or reading or writing fails. A loop has to end, and nothing says that the input does: so the turns
 // are counted down, from a number that no run uses up.
-fn follow(columns: Columns, name: &[u8], out: &mut [u8], input: &mut [u8])
+fn follow(node: Node, columns: Columns, name: &[u8], out: &mut [u8], input: &mut [u8])
     requires { ⌜ length (now input) ≡ 65536 ⌝ }
 {
     let mut table = [Call::EMPTY; 64];
@@ -57,7 +59,7 @@ fn follow(columns: Columns, name: &[u8], out: &mut [u8], input: &mut [u8])
         if filled == kept {
             return finish(kept, name);
         }
-        let ran = trace_run::run(table, &input[0..filled], out, columns, count);
+        let ran = trace_run::run(node, table, &input[0..filled], out, columns, count);
         if !show(out, ran.at, name) {
             return;
         }
@@ -78,11 +80,11 @@ fn finish(kept: usize, name: &[u8]) {
 }
 
 // The first line, and then the input as it comes.
-pub fn serve(columns: Columns, name: &[u8]) {
+pub fn serve(node: Node, columns: Columns, name: &[u8]) {
     let mut out = room();
     let first = trace_line::put_first_line(&mut out, 0, columns);
     if show(&out, first, name) {
         let mut input = io::large_buffer();
-        follow(columns, name, &mut out, &mut input);
+        follow(node, columns, name, &mut out, &mut input);
     }
 }

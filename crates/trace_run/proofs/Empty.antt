@@ -2,12 +2,12 @@
 use Prim.Native.Nat.{ℕ, zero, suc, _≤_}
 use mathlib.Core.Path.{_≡_, refl, sym, ap, subst}
 use mathlib.Core.Bool.{true}
-use lib.ListN.{length, getD, replicate, length-replicate}
+use lib.ListN.{getD, replicate, length-replicate}
 use Rattle.call.specs.declared.Call.{Call}
 use Rattle.call.specs.Record.{emptied}
-use Rattle.source_table.specs.Fit.{fitTable}
-use Rattle.source_table.specs.Claims.{FitRecord, FitTable}
-use Rattle.source_table.proofs.Fit.{fit-exactly}
+use Rattle.call_table.specs.Fit.{fitTable}
+use Rattle.call_table.specs.Claims.{FitRecord, FitTable}
+use Rattle.call_table.proofs.Fit.{fit-exactly}
 
 every-empty : (n i : ℕ) → getD (replicate n emptied) i emptied ≡ emptied
 every-empty zero i = refl

@@ -13,30 +13,29 @@ use borrow.Author.Tests.{eq-eqb, ne-eqb, eqb-false, eqb-true, lt-leb, lt-ltb, lt
 use Rattle.lent.specs.Search.{firstFrom}
 use Rattle.signal.specs.declared.Answer.{Answer}
 use Rattle.signal.specs.declared.Answer.the-variants.{KeyZero, KeyOnRecord, NoEmptyRecord, KeyNotOnRecord}
-use Rattle.signal.specs.declared.Wanted.{Wanted}
 use Rattle.events.specs.declared.Event.{Event}
+use Rattle.events.specs.declared.Node.{Node}
 use Rattle.call.specs.declared.Call.{Call}
 use Rattle.call.specs.declared.Outcome.{Outcome}
 use Rattle.call.specs.Record.{emptied, openedFor}
-use Rattle.call.specs.Events.{sourceHalf, eventOf}
+use Rattle.call.specs.Events.{halfOf, handledAt}
 use Rattle.events.specs.declared.Act.{Act}
 use Rattle.events.specs.declared.Act.the-variants.{Opens, Meets}
-use Rattle.source_table.specs.declared.Found.{Found}
-use Rattle.source_table.specs.declared.Found.the-variants.{At, Nothing}
-use Rattle.source_table.specs.declared.Ran.{Ran}
-use Rattle.source_table.specs.Fit.{fitTable}
+use Rattle.call_table.specs.declared.Found.{Found}
+use Rattle.call_table.specs.declared.Found.the-variants.{At, Nothing}
+use Rattle.call_table.specs.declared.Ran.{Ran}
 use Rattle.admission.specs.Admission.{actAdmitted, admissionOf, refusalIn}
 use Rattle.admission.specs.declared.Admission.{Admission}
-use Rattle.admission.specs.declared.Admission.the-variants.{Refuses, Takes, Reaches}
+use Rattle.admission.specs.declared.Admission.the-variants.{Refuses}
 use Rattle.admission.proofs.Claims.{full-is-read-last}
-use Rattle.source_table.specs.Table.{callIn, ranBy, isNothing, placeIn, ranFitOf, ranOf, refusedAt, tableOf}
-use Rattle.source_table.specs.Claims.{FitRecord, FitTable, callOf}
-use Rattle.source_table.proofs.Search.{first, sought-is, call-of, FoundAt, found-at, on-record, stands-on-record}
-use Rattle.source_table.proofs.Fit.{fit-exactly}
-use Rattle.source_table.proofs.Claims.{past-the-end}
-use Rattle.source_table.proofs.Source.{fit-needs-no-check}
-use Rattle.call.proofs.Source.{lawful}
-use Rattle.source_table.proofs.Kept.{after-event}
+use Rattle.call_table.specs.Table.{callIn, ranBy, isNothing, placeIn, refusedAt, tableOf}
+use Rattle.call_table.specs.Claims.{FitRecord, FitTable, TableClaims, callOf}
+use Rattle.call_table.proofs.Search.{first, sought-is, call-of, FoundAt, found-at, on-record, stands-on-record}
+use Rattle.call_table.proofs.Fit.{fit-exactly}
+use Rattle.call_table.proofs.Claims.{past-the-end}
+use Rattle.call.proofs.Ends.{lawful-at}
+use Rattle.call_table.proofs.All as any
+use Rattle.call_table.proofs.Kept.{after-event}
 use Rattle.trace_run.specs.Run.{shownOf}
 use Rattle.trace_run.specs.Placed.{keysIn, indexOf, placeFor, refusedWith, carriedOn, workedOn, unplacedFor}
 
@@ -103,172 +102,177 @@ shownBy ys key d = record { answer = d .done .answer; call = callOf key (set ys 
 shown-as : (o : Outcome) (c : Call) → c ≡ o .call → _≡_ {A = Outcome} (record { answer = o .answer; call = c; signals = o .signals }) o
 shown-as o c e i = record { answer = o .answer; call = e i; signals = o .signals }
 
-module _ (ys : List Call) (f : FitTable ys) where
-  -- a key but 0 stands at one place only
-  alone : (k i m : ℕ) → (k ≡ 0 → ⊥) → i < length ys → m < length ys → getD ys i emptied .key ≡ k → getD ys m emptied .key ≡ k → (m ≡ i → ⊥) → ⊥
-  alone k i m z li lm ei em o = by-order (ltb m i) refl
-    where
-      by-order : (b : Bool) → ltb m i ≡ b → ⊥
-      by-order true t = z (sym em ∙ f .keys m i (ltb-true m i t) li (em ∙ sym ei))
-      by-order false t =
-          let g : i < m = omega (arith, ltb-false m i t, o) in
-          z (sym ei ∙ f .keys i m g lm (ei ∙ sym em))
+-- ---- at an end of the call
+module _ (node : Node) where
+  abbrev table-claims : TableClaims (halfOf node)
+  table-claims = any.claims (halfOf node) (lawful-at node)
 
-  module _ (key : ℕ) (z : key ≡ 0 → ⊥) where
-    -- a call with its key at the place of the first, and all before it as they were
-    call-put : (i : ℕ) (d : Call) → i < length ys → ((m : ℕ) → m < i → getD ys m emptied .key ≡ key → ⊥) → d .key ≡ key → callOf key (set ys i d) ≡ d
-    call-put i d l b e =
-        call-first key (set ys i d) i (omega (arith, length-set ys i d)) (key-of (getD-set-same ys i d emptied l) ∙ e)
-        (λ m n q. b m n (sym (key-of (getD-set-other ys i m d emptied (λ (s : m ≡ i). omega arith))) ∙ q))
-        ∙ getD-set-same ys i d emptied l
-
-    -- where the call of a key ends, none has the key
-    call-gone : (i : ℕ) → i < length ys → getD ys i emptied .key ≡ key → callOf key (set ys i emptied) ≡ emptied
-    call-gone i l e =
-        call-none key (set ys i emptied)
-        (λ m n q.
-        let lm : m < length ys = omega (arith, length-set ys i emptied) in
-        by-place m lm q)
+  module _ (ys : List Call) (f : FitTable ys) where
+    -- a key but 0 stands at one place only
+    alone : (k i m : ℕ) → (k ≡ 0 → ⊥) → i < length ys → m < length ys → getD ys i emptied .key ≡ k → getD ys m emptied .key ≡ k → (m ≡ i → ⊥) → ⊥
+    alone k i m z li lm ei em o = by-order (ltb m i) refl
       where
-        by-place : (m : ℕ) → m < length ys → getD (set ys i emptied) m emptied .key ≡ key → ⊥
-        by-place m lm q =
-            let o : m ≡ i → ⊥ = λ s. z (sym q ∙ (ap (λ (x : ℕ). getD (set ys i emptied) x emptied .key) s ∙ key-of (getD-set-same ys i emptied emptied l))) in
-            alone key i m z l lm e (sym (key-of (getD-set-other ys i m emptied emptied o)) ∙ q) o
+        by-order : (b : Bool) → ltb m i ≡ b → ⊥
+        by-order true t = z (sym em ∙ f .keys m i (ltb-true m i t) li (em ∙ sym ei))
+        by-order false t =
+            let g : i < m = omega (arith, ltb-false m i t, o) in
+            z (sym ei ∙ f .keys i m g lm (ei ∙ sym em))
 
-    event-shown : (i : ℕ) (c : Call) (e : Event) → Here key ys i c → callOf key (set ys i (eventOf c e .call)) ≡ eventOf c e .call
-    event-shown i c e h =
-        let cn : c .key ≡ 0 → ⊥ = λ q. z (sym (h .named) ∙ q) in
-        let fc : FitRecord c = rw (h .there) at (f .each i (h .inside)) in
-        let r = after-event sourceHalf lawful c e cn (fc .used cn) in
-        ⊎-elim
-        (λ q. let g : eventOf c e .call ≡ emptied = r .0 .empty q in rw g (call-gone i (h .inside) (key-of (h .there) ∙ h .named)))
-        (λ q. call-put i (eventOf c e .call) (h .inside) (h .before) (q ∙ h .named))
-        (r .1)
+    module _ (key : ℕ) (z : key ≡ 0 → ⊥) where
+      -- a call with its key at the place of the first, and all before it as they were
+      call-put : (i : ℕ) (d : Call) → i < length ys → ((m : ℕ) → m < i → getD ys m emptied .key ≡ key → ⊥) → d .key ≡ key → callOf key (set ys i d) ≡ d
+      call-put i d l b e =
+          call-first key (set ys i d) i (omega (arith, length-set ys i d)) (key-of (getD-set-same ys i d emptied l) ∙ e)
+          (λ m n q. b m n (sym (key-of (getD-set-other ys i m d emptied (λ (s : m ≡ i). omega arith))) ∙ q))
+          ∙ getD-set-same ys i d emptied l
 
--- where an opening or event goes, by what the searches find
-abbrev placeOn : Found → Found → Act → ℕ
-placeOn (At i c) free act = i
-placeOn Nothing free (Opens wanted) = placeIn 64 free
-placeOn Nothing free (Meets e) = 64
+      -- where the call of a key ends, none has the key
+      call-gone : (i : ℕ) → i < length ys → getD ys i emptied .key ≡ key → callOf key (set ys i emptied) ≡ emptied
+      call-gone i l e =
+          call-none key (set ys i emptied)
+          (λ m n q.
+          let lm : m < length ys = omega (arith, length-set ys i emptied) in
+          by-place m lm q)
+        where
+          by-place : (m : ℕ) → m < length ys → getD (set ys i emptied) m emptied .key ≡ key → ⊥
+          by-place m lm q =
+              let o : m ≡ i → ⊥ = λ s. z (sym q ∙ (ap (λ (x : ℕ). getD (set ys i emptied) x emptied .key) s ∙ key-of (getD-set-same ys i emptied emptied l))) in
+              alone key i m z l lm e (sym (key-of (getD-set-other ys i m emptied emptied o)) ∙ q) o
 
--- a search in 64 records finds a place below 64, or nothing
-abbrev Within : Found → Type 0
-Within (At i c) = i < 64
-Within Nothing = Unit {0}
+      event-shown : (i : ℕ) (c : Call) (e : Event) → Here key ys i c → callOf key (set ys i (handledAt (halfOf node) c e .call)) ≡ handledAt (halfOf node) c e .call
+      event-shown i c e h =
+          let cn : c .key ≡ 0 → ⊥ = λ q. z (sym (h .named) ∙ q) in
+          let fc : FitRecord c = rw (h .there) at (f .each i (h .inside)) in
+          let r = after-event (halfOf node) (lawful-at node) c e cn (fc .used cn) in
+          ⊎-elim
+          (λ q. let g : handledAt (halfOf node) c e .call ≡ emptied = r .0 .empty q in rw g (call-gone i (h .inside) (key-of (h .there) ∙ h .named)))
+          (λ q. call-put i (handledAt (halfOf node) c e .call) (h .inside) (h .before) (q ∙ h .named))
+          (r .1)
 
--- where a record is found for it, that is so whether the table is full or not: an opening is asked for an empty one only where its key is missing
-admitted-in : (key : ℕ) (act : Act) (found free : Found) → Within found → Within free → placeOn found free act < 64 →
-    admissionOf key act (leb 64 (placeIn 64 found)) false ≡ admissionOf key act (isNothing found) (isNothing free)
-admitted-in key act (At i c) free l m h =
-    rw (lt-leb 64 i l) (full-is-read-last .0 key act false ∙ sym (full-is-read-last .0 key act (isNothing free)))
-admitted-in key (Opens wanted) Nothing (At i c) l m h = refl
-admitted-in key (Opens wanted) Nothing Nothing l m h = absurd (omega arith)
-admitted-in key (Meets e) Nothing free l m h = absurd (omega arith)
+  -- where an opening or event goes, by what the searches find
+  abbrev placeOn : Found → Found → Act → ℕ
+  placeOn (At i c) free act = i
+  placeOn Nothing free (Opens wanted) = placeIn 64 free
+  placeOn Nothing free (Meets e) = 64
 
--- and where none is, the key is missing, and for an opening the table is full
-admitted-out : (key : ℕ) (act : Act) (found free : Found) → Within found → Within free → 64 ≤ placeOn found free act →
-    admissionOf key act true true ≡ admissionOf key act (isNothing found) (isNothing free)
-admitted-out key act (At i c) free l m h = absurd (omega arith)
-admitted-out key (Opens wanted) Nothing (At i c) l m h = absurd (omega arith)
-admitted-out key (Opens wanted) Nothing Nothing l m h = refl
-admitted-out key (Meets e) Nothing free l m h = refl
+  -- a search in 64 records finds a place below 64, or nothing
+  abbrev Within : Found → Type 0
+  Within (At i c) = i < 64
+  Within Nothing = Unit {0}
 
--- there it is refused
-turned-away : (key : ℕ) (act : Act) (c : Call) → carriedOn c key (admissionOf key act true true) ≡ refusedWith (refusalIn (admissionOf key act true true)) c
-turned-away key act c = by-key (eqb key 0) act
-  where
-    by-key : (b : Bool) (act : Act) → let a = cond b (Refuses KeyZero) (actAdmitted act true true) in carriedOn c key a ≡ refusedWith (refusalIn a) c
-    by-key true act = refl
-    by-key false (Opens wanted) = refl
-    by-key false (Meets e) = refl
+  -- where a record is found for it, that is so whether the table is full or not: an opening is asked for an empty one only where its key is missing
+  admitted-in : (key : ℕ) (act : Act) (found free : Found) → Within found → Within free → placeOn found free act < 64 →
+      admissionOf key act (leb 64 (placeIn 64 found)) false ≡ admissionOf key act (isNothing found) (isNothing free)
+  admitted-in key act (At i c) free l m h =
+      rw (lt-leb 64 i l) (full-is-read-last .0 key act false ∙ sym (full-is-read-last .0 key act (isNothing free)))
+  admitted-in key (Opens wanted) Nothing (At i c) l m h = refl
+  admitted-in key (Opens wanted) Nothing Nothing l m h = absurd (omega arith)
+  admitted-in key (Meets e) Nothing free l m h = absurd (omega arith)
 
--- the place, by what the searches find
-place-on : (act : Act) (found free : Found) → Within found → (ks : List ℕ) → indexOf 0 ks ≡ placeIn 64 free → placeFor ks (placeIn 64 found) act ≡ placeOn found free act
-place-on act (At i c) free l ks q = rw (lt-ltb i 64 l)
-place-on (Opens wanted) Nothing free l ks q = q
-place-on (Meets e) Nothing free l ks q = refl
+  -- and where none is, the key is missing, and for an opening the table is full
+  admitted-out : (key : ℕ) (act : Act) (found free : Found) → Within found → Within free → 64 ≤ placeOn found free act →
+      admissionOf key act true true ≡ admissionOf key act (isNothing found) (isNothing free)
+  admitted-out key act (At i c) free l m h = absurd (omega arith)
+  admitted-out key (Opens wanted) Nothing (At i c) l m h = absurd (omega arith)
+  admitted-out key (Opens wanted) Nothing Nothing l m h = refl
+  admitted-out key (Meets e) Nothing free l m h = refl
 
--- what is decided, and what comes of an admission at a place: the same table, and the same outcome shown
-abbrev Goes : List Call → ℕ → Admission → ℕ → Ran → Type 0
-Goes ys key a j d =
-    (set ys (d .at) (d .call) ≡ set ys j (carriedOn (getD ys j emptied) key a .call))
-    × (shownBy ys key d ≡ carriedOn (getD ys j emptied) key a)
+  -- there it is refused
+  turned-away : (key : ℕ) (act : Act) (c : Call) → carriedOn node c key (admissionOf key act true true) ≡ refusedWith (refusalIn (admissionOf key act true true)) c
+  turned-away key act c = by-key (eqb key 0) act
+    where
+      by-key : (b : Bool) (act : Act) → let a = cond b (Refuses KeyZero) (actAdmitted act true true) in carriedOn node c key a ≡ refusedWith (refusalIn a) c
+      by-key true act = refl
+      by-key false (Opens wanted) = refl
+      by-key false (Meets e) = refl
 
--- a refusal leaves the table, and shows the record of the key where it goes
-refusal-goes : (ys : List Call) (key : ℕ) (a : Answer) (j : ℕ) → getD ys j emptied ≡ callOf key ys → Goes ys key (Refuses a) j (refusedAt (length ys) a)
-refusal-goes ys key a j e =
-    let q = past-the-end ys a .0 in
-    (q ∙ sym (set-getD ys j emptied), shown-as (refusedWith a (getD ys j emptied)) _ (ap (callOf key) q ∙ sym e))
+  -- the place, by what the searches find
+  place-on : (act : Act) (found free : Found) → Within found → (ks : List ℕ) → indexOf 0 ks ≡ placeIn 64 free → placeFor ks (placeIn 64 found) act ≡ placeOn found free act
+  place-on act (At i c) free l ks q = rw (lt-ltb i 64 l)
+  place-on (Opens wanted) Nothing free l ks q = q
+  place-on (Meets e) Nothing free l ks q = refl
 
-module _ (ys : List Call) (f : FitTable ys) (n : length ys ≡ 64) (key : ℕ) where
-  -- what stands where a search ends
-  found-there : (k : ℕ) (found : Found) → first k 0 ys ≡ found → getD ys (placeIn 64 found) emptied ≡ callIn found
-  found-there k (At i c) p = here k ys i c p .there
-  found-there k Nothing p = List·getD-eq-default ys emptied (omega arith)
+  -- what is decided, and what comes of an admission at a place: the same table, and the same outcome shown
+  abbrev Goes : List Call → ℕ → Admission → ℕ → Ran → Type 0
+  Goes ys key a j d =
+      (set ys (d .at) (d .call) ≡ set ys j (carriedOn node (getD ys j emptied) key a .call))
+      × (shownBy ys key d ≡ carriedOn node (getD ys j emptied) key a)
 
-  call-there : (k : ℕ) (found : Found) → first k 0 ys ≡ found → getD ys (placeIn 64 found) emptied ≡ callOf k ys
-  call-there k found p = found-there k found p ∙ (sym (ap callIn p) ∙ call-of k 0 ys)
+  -- a refusal leaves the table, and shows the record of the key where it goes
+  refusal-goes : (ys : List Call) (key : ℕ) (a : Answer) (j : ℕ) → getD ys j emptied ≡ callOf key ys → Goes ys key (Refuses a) j (refusedAt (length ys) a)
+  refusal-goes ys key a j e =
+      let q = past-the-end ys a .0 in
+      (q ∙ sym (set-getD ys j emptied), shown-as (refusedWith a (getD ys j emptied)) _ (ap (callOf key) q ∙ sym e))
 
-  within : (k : ℕ) (found : Found) → first k 0 ys ≡ found → Within found
-  within k (At i c) p = omega (arith, here k ys i c p .inside)
-  within k Nothing p = tt
+  module _ (ys : List Call) (f : FitTable ys) (n : length ys ≡ 64) (key : ℕ) where
+    -- what stands where a search ends
+    found-there : (k : ℕ) (found : Found) → first k 0 ys ≡ found → getD ys (placeIn 64 found) emptied ≡ callIn found
+    found-there k (At i c) p = here k ys i c p .there
+    found-there k Nothing p = List·getD-eq-default ys emptied (omega arith)
 
-  by-found : (act : Act) (found free : Found) → first key 0 ys ≡ found → first 0 0 ys ≡ free → (key ≡ 0 → ⊥) →
-      let a = actAdmitted act (isNothing found) (isNothing free) in
-      Goes ys key a (placeOn found free act) (ranBy sourceHalf (length ys) (record { found = found; free = free }) key a)
-  by-found (Opens wanted) (At i c) free p q z = refusal-goes ys key KeyOnRecord i (call-there key (At i c) p)
-  by-found (Opens wanted) Nothing (At i c) p q z =
-      let h = here 0 ys i c q in
-      (refl, shown-as (openedFor key wanted) _ (call-put ys f key z i _ (h .inside) (λ m l e. nowhere key ys p m (omega (arith, h .inside)) e) refl))
-  by-found (Opens wanted) Nothing Nothing p q z = refusal-goes ys key NoEmptyRecord 64 (call-there key Nothing p)
-  by-found (Meets e) (At i c) free p q z =
-      let h = here key ys i c p in
-      rw (h .there) (refl, shown-as (eventOf c e) _ (event-shown ys f key z i c e h))
-  by-found (Meets e) Nothing free p q z = refusal-goes ys key KeyNotOnRecord 64 (call-there key Nothing p)
+    call-there : (k : ℕ) (found : Found) → first k 0 ys ≡ found → getD ys (placeIn 64 found) emptied ≡ callOf k ys
+    call-there k found p = found-there k found p ∙ (sym (ap callIn p) ∙ call-of k 0 ys)
 
-  -- key 0 is found wherever a record is empty, and refused there
-  by-zero : (act : Act) (found free : Found) → first key 0 ys ≡ found → first 0 0 ys ≡ free → key ≡ 0 → placeOn found free act ≡ placeIn 64 found
-  by-zero act (At i c) free p q z = refl
-  by-zero (Meets e) Nothing free p q z = refl
-  by-zero (Opens wanted) Nothing free p q z = ap (placeIn 64) (sym q ∙ (ap (λ (k : ℕ). first k 0 ys) (sym z) ∙ p))
+    within : (k : ℕ) (found : Found) → first k 0 ys ≡ found → Within found
+    within k (At i c) p = omega (arith, here k ys i c p .inside)
+    within k Nothing p = tt
 
-  by-key : (act : Act) (found free : Found) → first key 0 ys ≡ found → first 0 0 ys ≡ free → (b : Bool) → eqb key 0 ≡ b →
-      let a = cond b (Refuses KeyZero) (actAdmitted act (isNothing found) (isNothing free)) in
-      Goes ys key a (placeOn found free act) (ranBy sourceHalf (length ys) (record { found = found; free = free }) key a)
-  by-key act found free p q true t =
-      refusal-goes ys key KeyZero (placeOn found free act)
-      (ap (λ (j : ℕ). getD ys j emptied) (by-zero act found free p q (eqb-true key 0 t)) ∙ call-there key found p)
-  by-key act found free p q false t = by-found act found free p q (eqb-false key 0 t)
+    by-found : (act : Act) (found free : Found) → first key 0 ys ≡ found → first 0 0 ys ≡ free → (key ≡ 0 → ⊥) →
+        let a = actAdmitted act (isNothing found) (isNothing free) in
+        Goes ys key a (placeOn found free act) (ranBy (halfOf node) (length ys) (record { found = found; free = free }) key a)
+    by-found (Opens wanted) (At i c) free p q z = refusal-goes ys key KeyOnRecord i (call-there key (At i c) p)
+    by-found (Opens wanted) Nothing (At i c) p q z =
+        let h = here 0 ys i c q in
+        (refl, shown-as (openedFor key wanted) _ (call-put ys f key z i _ (h .inside) (λ m l e. nowhere key ys p m (omega (arith, h .inside)) e) refl))
+    by-found (Opens wanted) Nothing Nothing p q z = refusal-goes ys key NoEmptyRecord 64 (call-there key Nothing p)
+    by-found (Meets e) (At i c) free p q z =
+        let h = here key ys i c p in
+        rw (h .there) (refl, shown-as (handledAt (halfOf node) c e) _ (event-shown ys f key z i c e h))
+    by-found (Meets e) Nothing free p q z = refusal-goes ys key KeyNotOnRecord 64 (call-there key Nothing p)
 
-  went : (act : Act) → let a = admissionOf key act (isNothing (first key 0 ys)) (isNothing (first 0 0 ys)) in
-      let j = placeOn (first key 0 ys) (first 0 0 ys) act in
-      (tableOf sourceHalf ys key act ≡ set ys j (carriedOn (getD ys j emptied) key a .call)) × (shownOf ys key act ≡ carriedOn (getD ys j emptied) key a)
-  unfolding shownOf
-  went act =
-      rw (← fit-needs-no-check ys key act (fit-exactly ys .1 f) .0, sought-is ys key)
-      (by-key act (first key 0 ys) (first 0 0 ys) refl refl (eqb key 0) refl)
+    -- key 0 is found wherever a record is empty, and refused there
+    by-zero : (act : Act) (found free : Found) → first key 0 ys ≡ found → first 0 0 ys ≡ free → key ≡ 0 → placeOn found free act ≡ placeIn 64 found
+    by-zero act (At i c) free p q z = refl
+    by-zero (Meets e) Nothing free p q z = refl
+    by-zero (Opens wanted) Nothing free p q z = ap (placeIn 64) (sym q ∙ (ap (λ (k : ℕ). first k 0 ys) (sym z) ∙ p))
 
-  index-within : (k : ℕ) → indexOf k (keysIn ys) ≡ placeIn 64 (first k 0 ys)
-  index-within k = index-is k ys ∙ ap (λ (m : ℕ). placeIn m (first k 0 ys)) n
+    by-key : (act : Act) (found free : Found) → first key 0 ys ≡ found → first 0 0 ys ≡ free → (b : Bool) → eqb key 0 ≡ b →
+        let a = cond b (Refuses KeyZero) (actAdmitted act (isNothing found) (isNothing free)) in
+        Goes ys key a (placeOn found free act) (ranBy (halfOf node) (length ys) (record { found = found; free = free }) key a)
+    by-key act found free p q true t =
+        refusal-goes ys key KeyZero (placeOn found free act)
+        (ap (λ (j : ℕ). getD ys j emptied) (by-zero act found free p q (eqb-true key 0 t)) ∙ call-there key found p)
+    by-key act found free p q false t = by-found act found free p q (eqb-false key 0 t)
 
-  module _ (act : Act) (i j : ℕ) (at : i ≡ indexOf key (keysIn ys)) (to : j ≡ placeFor (keysIn ys) i act) where
-    place-is : j ≡ placeOn (first key 0 ys) (first 0 0 ys) act
-    place-is =
-        to ∙ (ap (λ (m : ℕ). placeFor (keysIn ys) m act) (at ∙ index-within key)
-        ∙ place-on act (first key 0 ys) (first 0 0 ys) (within key _ refl) (keysIn ys) (index-within 0))
+    went : (act : Act) → let a = admissionOf key act (isNothing (first key 0 ys)) (isNothing (first 0 0 ys)) in
+        let j = placeOn (first key 0 ys) (first 0 0 ys) act in
+        (tableOf (halfOf node) ys key act ≡ set ys j (carriedOn node (getD ys j emptied) key a .call)) × (shownOf node ys key act ≡ carriedOn node (getD ys j emptied) key a)
+    unfolding shownOf
+    went act =
+        rw (← table-claims .fitNeedsNoCheck ys key act (fit-exactly ys .1 f) .0, sought-is ys key)
+        (by-key act (first key 0 ys) (first 0 0 ys) refl refl (eqb key 0) refl)
 
-    -- at a place of the table, the record there becomes what comes of it, and that is shown
-    pub placed : j < 64 →
-        (tableOf sourceHalf ys key act ≡ set ys j (workedOn (getD ys j emptied) key act (leb 64 i) .call))
-        × (shownOf ys key act ≡ workedOn (getD ys j emptied) key act (leb 64 i))
-    placed h =
-        let a = admitted-in key act (first key 0 ys) (first 0 0 ys) (within key _ refl) (within 0 _ refl) (rw place-is at h) in
-        rw (at, index-within key, a, place-is) (went act)
+    index-within : (k : ℕ) → indexOf k (keysIn ys) ≡ placeIn 64 (first k 0 ys)
+    index-within k = index-is k ys ∙ ap (λ (m : ℕ). placeIn m (first k 0 ys)) n
 
-    -- past its end, the table stays
-    pub unplaced : 64 ≤ j → (tableOf sourceHalf ys key act ≡ ys) × (shownOf ys key act ≡ unplacedFor key act)
-    unplaced h =
-        let a = admitted-out key act (first key 0 ys) (first 0 0 ys) (within key _ refl) (within 0 _ refl) (rw place-is at h) in
-        let past : length ys ≤ j = omega arith in
-        let w = rw (← a, ← place-is, List·getD-eq-default ys emptied past) at (went act) in
-        (w .0 ∙ set-out ys j _ past, w .1 ∙ turned-away key act emptied)
+    module _ (act : Act) (i j : ℕ) (at : i ≡ indexOf key (keysIn ys)) (to : j ≡ placeFor (keysIn ys) i act) where
+      place-is : j ≡ placeOn (first key 0 ys) (first 0 0 ys) act
+      place-is =
+          to ∙ (ap (λ (m : ℕ). placeFor (keysIn ys) m act) (at ∙ index-within key)
+          ∙ place-on act (first key 0 ys) (first 0 0 ys) (within key _ refl) (keysIn ys) (index-within 0))
+
+      -- at a place of the table, the record there becomes what comes of it, and that is shown
+      pub placed : j < 64 →
+          (tableOf (halfOf node) ys key act ≡ set ys j (workedOn node (getD ys j emptied) key act (leb 64 i) .call))
+          × (shownOf node ys key act ≡ workedOn node (getD ys j emptied) key act (leb 64 i))
+      placed h =
+          let a = admitted-in key act (first key 0 ys) (first 0 0 ys) (within key _ refl) (within 0 _ refl) (rw place-is at h) in
+          rw (at, index-within key, a, place-is) (went act)
+
+      -- past its end, the table stays
+      pub unplaced : 64 ≤ j → (tableOf (halfOf node) ys key act ≡ ys) × (shownOf node ys key act ≡ unplacedFor key act)
+      unplaced h =
+          let a = admitted-out key act (first key 0 ys) (first 0 0 ys) (within key _ refl) (within 0 _ refl) (rw place-is at h) in
+          let past : length ys ≤ j = omega arith in
+          let w = rw (← a, ← place-is, List·getD-eq-default ys emptied past) at (went act) in
+          (w .0 ∙ set-out ys j _ past, w .1 ∙ turned-away key act emptied)

@@ -26,6 +26,8 @@ use Rattle.trace_line.specs.Claims.{line}
 use Rattle.trace_line.specs.Line.{numbersText, restText, lineText}
 use Rattle.trace_line.specs.declared.Columns.the-variants.{Trace}
 use Rattle.trace_line.specs.declared.Columns.{Columns}
+use Rattle.events.specs.declared.Node.{Node}
+use Rattle.events.specs.declared.Node.the-variants.{Source, Destination}
 use Rattle.trace_run.specs.Run.{onRequest, shownOf}
 use Rattle.trace_run.specs.declared.Stop.{Stop}
 use Rattle.trace_run.proofs.run as the-run
@@ -47,11 +49,14 @@ module _ {M : Type 1} (𝓤 : URA M) (H : Heap 𝓤) (A : Atoms 𝓤) (memory : 
   abbrev NeverHolds : SProp 𝓤 → Type 1
   NeverHolds says = ent 𝓤 says (fact 𝓤 ⊥)
 
-  -- run: of a table, octets, a buffer, the columns and a count, how far the run has come, and what is left in the buffer
+  -- run: of an end, a table, octets, a buffer, the columns and a count, how far the run has come, and what is left in the buffer
+  abbrev run-at-shuts-out : Node → List Call → List ℕ → List ℕ → Columns → ℕ → Stop → List ℕ → Type 1
+  run-at-shuts-out node table input out columns start r left =
+      (κs : Lfts 2) → NeverHolds (the-run.clauses 𝓤 H A memory run κs (node, (table, (lent input, (lent out, (columns, (start, tt))))))
+      .ensures tt r (node, (table, (lent input, (lent left, (columns, (start, tt)))))))
+
   abbrev run-shuts-out : List Call → List ℕ → List ℕ → Columns → ℕ → Stop → List ℕ → Type 1
-  run-shuts-out table input out columns start r left =
-      (κs : Lfts 2) → NeverHolds (the-run.clauses 𝓤 H A memory run κs (table, (lent input, (lent out, (columns, (start, tt)))))
-      .ensures tt r (table, (lent input, (lent left, (columns, (start, tt))))))
+  run-shuts-out table input out columns start r left = run-at-shuts-out Source table input out columns start r left
 
   -- 01, "The trace": each line has the record count, from 1
   pub records-counted-by-two :
@@ -91,3 +96,12 @@ module _ {M : Type 1} (𝓤 : URA M) (H : Heap 𝓤) (A : Atoms 𝓤) (memory : 
   unfolding putByte putText spelled numberText numbersText restText lineText onRequest recordAt shownOf readFrom has distinctOf
   key-of-an-ended-call-still-found r κs =
       fact-mono 𝓤 _ _ (λ h. let z : _≡_ {A = ℕ} 54 _ = ap (λ (p : Page). getD (p .bytes) 28 0) (h .1 .1 .1 .0) in omega arith)
+
+  -- the destination takes a setup for an immediate switchover without symmetric soft too, and is in Hard Initiated; the source answers 106
+  pub destination-answers-as-the-source :
+      (r : Stop) →
+      run-at-shuts-out Destination empty (plain 0 7 ++ (5 ∷ 0 ∷ 0 ∷ 0 ∷ 0 ∷ 0 ∷ 0 ∷ 7 ∷ 0 ∷ 0 ∷ 0 ∷ 3 ∷ 0 ∷ 0 ∷ 0 ∷ 0 ∷ [])) (replicate 26 0) Trace 0 r
+      (line (ascii "1 0 1 1 0 0") ++ line (ascii "2 106 1 1 0 0"))
+  unfolding putByte putText spelled numberText numbersText restText lineText onRequest recordAt shownOf readFrom has distinctOf
+  destination-answers-as-the-source r κs =
+      fact-mono 𝓤 _ _ (λ h. let z : _≡_ {A = ℕ} 49 _ = ap (λ (p : Page). getD (p .bytes) 14 0) (h .1 .1 .1 .0) in omega arith)

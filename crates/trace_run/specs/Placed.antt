@@ -11,13 +11,14 @@ use Rattle.signal.specs.Signals.{places}
 use Rattle.call.specs.declared.Call.{Call}
 use Rattle.call.specs.declared.Outcome.{Outcome}
 use Rattle.call.specs.Record.{emptied, openedFor}
-use Rattle.call.specs.Events.{eventOf}
+use Rattle.call.specs.Events.{halfOf, handledAt}
 use Rattle.events.specs.declared.Act.{Act}
 use Rattle.events.specs.declared.Act.the-variants.{Opens, Meets}
+use Rattle.events.specs.declared.Node.{Node}
 use Rattle.admission.specs.Admission.{admissionOf, refusalIn}
 use Rattle.admission.specs.declared.Admission.{Admission}
 use Rattle.admission.specs.declared.Admission.the-variants.{Reaches, Refuses, Takes}
-use Rattle.source_table.specs.Fit.{fitTable}
+use Rattle.call_table.specs.Fit.{fitTable}
 use Rattle.trace_run.specs.Run.{Past}
 use Rattle.trace_run.specs.declared.Stop.{Stop}
 
@@ -43,27 +44,28 @@ abbrev pub refusedWith : Answer → Call → Outcome
 refusedWith a c = record { answer = a; call = c; signals = places [] }
 
 -- what comes of an admission, at its record
-abbrev pub carriedOn : Call → ℕ → Admission → Outcome
-carriedOn c key (Refuses a) = refusedWith a c
-carriedOn c key (Takes wanted) = openedFor key wanted
-carriedOn c key (Reaches e) = eventOf c e
+abbrev pub carriedOn : Node → Call → ℕ → Admission → Outcome
+carriedOn node c key (Refuses a) = refusedWith a c
+carriedOn node c key (Takes wanted) = openedFor key wanted
+carriedOn node c key (Reaches e) = handledAt (halfOf node) c e
 
 -- what comes of an opening or event at the record that it goes to, which is empty or has its key
-abbrev pub workedOn : Call → ℕ → Act → Bool → Outcome
-workedOn c key act missing = carriedOn c key (admissionOf key act missing false)
+abbrev pub workedOn : Node → Call → ℕ → Act → Bool → Outcome
+workedOn node c key act missing = carriedOn node c key (admissionOf key act missing false)
 
 -- and where it goes to none: its key is missing, and for an opening the table is full
 abbrev pub unplacedFor : ℕ → Act → Outcome
 unplacedFor key act = refusedWith (refusalIn (admissionOf key act true true)) emptied
 
--- what is answered of a run that a bad record ended
-abbrev pub stoppedAt : List Call → ℕ → ℕ → Stop
-stoppedAt ys at n = record { table = ys; at = at; count = n; good = false }
+-- what is answered of a run: its table, the end of its lines in the buffer, the count, and whether no bad record ended it
+abbrev pub stoppedAt : List Call → ℕ → ℕ → Bool → Stop
+stoppedAt ys at n good = record { table = ys; at = at; count = n; good = good }
 
--- what is left of a run over a chunk, besides its table: the count of records and whether none was bad; the lines at the start of the
+-- what is left of a run over a chunk: its table, the count of records and whether none was bad; the lines at the start of the
 -- buffer; and that the table is fit again, and no more than 4,096 records were counted
 abbrev pub Stops : Past → Stop → List ℕ → List ℕ → ℕ → Type 0
 Stops p r before after start =
-    (r .count ≡ p .count)
+    (r .table ≡ p .table)
+    × ((r .count ≡ p .count)
     × ((r .good ≡ p .good)
-    × ((page after (r .at) ≡ putText (page before 0) (p .text)) × ((fitTable (r .table) ≡ true) × (r .count ≤ start + 4096))))
+    × ((page after (r .at) ≡ putText (page before 0) (p .text)) × ((fitTable (r .table) ≡ true) × (r .count ≤ start + 4096)))))

@@ -140,3 +140,50 @@ story =
     -- 01, The trace: kind 10 is not named
     ∷ storyLine (10 ∷ 0 ∷ 0 ∷ 0 ∷ 0 ∷ 0 ∷ 0 ∷ 7 ∷ 0 ∷ 0 ∷ 0 ∷ 0 ∷ 0 ∷ 0 ∷ 0 ∷ 0 ∷ []) "bad"
     ∷ []
+
+-- The bench run of the destination node (bench/destination): one call with hard on and symmetric soft, moved hard and then soft by the far
+-- side and once by this side, until its incumbent fails and no setup comes in time. Neither 01 nor 02 prints a run of this end: each line
+-- is derived by hand from the place that stands above it: a case of 6.3, an item of Annex D (Dn-m), or the number of a refusal.
+unfoldable pub destinationStory : List StoryLine
+destinationStory =
+    -- 01, openings: Idle (1), record number 0
+    storyLine (0 ∷ 1 ∷ 1 ∷ 2 ∷ 0 ∷ 0 ∷ 0 ∷ 7 ∷ 0 ∷ 0 ∷ 0 ∷ 0 ∷ 0 ∷ 0 ∷ 0 ∷ 0 ∷ []) "1 0 1 1 0 0 1 -"
+    -- 6.3.5.1 case 1: Hard Initiated (2), 4
+    ∷ storyLine (5 ∷ 0 ∷ 0 ∷ 0 ∷ 0 ∷ 0 ∷ 0 ∷ 7 ∷ 0 ∷ 0 ∷ 0 ∷ 4 ∷ 0 ∷ 0 ∷ 0 ∷ 0 ∷ []) "2 0 3 0 2 4 2 timer start, release incumbent 1"
+    -- D36-7: in a Hard state an unrecognised code is hard: Hard Initiated (3), 5
+    ∷ storyLine (5 ∷ 200 ∷ 0 ∷ 0 ∷ 0 ∷ 0 ∷ 0 ∷ 7 ∷ 0 ∷ 0 ∷ 0 ∷ 5 ∷ 0 ∷ 0 ∷ 0 ∷ 0 ∷ []) "3 0 3 0 3 5 3 release rerouting 2 cause 21"
+    -- 6.3.5.8: Idle (3), 5
+    ∷ storyLine (8 ∷ 0 ∷ 0 ∷ 0 ∷ 0 ∷ 0 ∷ 0 ∷ 7 ∷ 0 ∷ 0 ∷ 0 ∷ 0 ∷ 0 ∷ 0 ∷ 0 ∷ 0 ∷ []) "4 0 1 3 0 5 3 timer stop, switch 3, connect 3"
+    -- D36-4: the number on record is old
+    ∷ storyLine (5 ∷ 1 ∷ 0 ∷ 0 ∷ 0 ∷ 0 ∷ 0 ∷ 7 ∷ 0 ∷ 0 ∷ 0 ∷ 5 ∷ 0 ∷ 0 ∷ 0 ∷ 0 ∷ []) "5 0 1 3 0 5 3 reject #5"
+    -- D36-3: in Idle the same code is rejected, and 9 is not stored
+    ∷ storyLine (5 ∷ 200 ∷ 0 ∷ 0 ∷ 0 ∷ 0 ∷ 0 ∷ 7 ∷ 0 ∷ 0 ∷ 0 ∷ 9 ∷ 0 ∷ 0 ∷ 0 ∷ 0 ∷ []) "6 0 1 3 0 5 3 reject #8"
+    -- 6.3.5.1 case 2: Soft Initiated (3,4), 6
+    ∷ storyLine (5 ∷ 1 ∷ 0 ∷ 0 ∷ 0 ∷ 0 ∷ 0 ∷ 7 ∷ 0 ∷ 0 ∷ 0 ∷ 6 ∷ 0 ∷ 0 ∷ 0 ∷ 0 ∷ []) "7 0 6 3 4 6 4 -"
+    -- 6.3.5.9: Awaiting (3,4), 6
+    ∷ storyLine (8 ∷ 0 ∷ 0 ∷ 0 ∷ 0 ∷ 0 ∷ 0 ∷ 7 ∷ 0 ∷ 0 ∷ 0 ∷ 0 ∷ 0 ∷ 0 ∷ 0 ∷ 0 ∷ []) "8 0 7 3 4 6 4 connect 4"
+    -- 106: ready outside Hard Initiated and Soft Initiated
+    ∷ storyLine (8 ∷ 0 ∷ 0 ∷ 0 ∷ 0 ∷ 0 ∷ 0 ∷ 7 ∷ 0 ∷ 0 ∷ 0 ∷ 0 ∷ 0 ∷ 0 ∷ 0 ∷ 0 ∷ []) "9 106 7 3 4 6 4 -"
+    -- 6.3.5.5: as 6.3.5.4 case 2: Soft Initiated (3,5), 8
+    ∷ storyLine (5 ∷ 1 ∷ 0 ∷ 0 ∷ 0 ∷ 0 ∷ 0 ∷ 7 ∷ 0 ∷ 0 ∷ 0 ∷ 8 ∷ 0 ∷ 0 ∷ 0 ∷ 0 ∷ []) "10 0 6 3 5 8 5 release rerouting 4 cause 21"
+    -- 6.3.5.9: Awaiting (3,5), 8
+    ∷ storyLine (8 ∷ 0 ∷ 0 ∷ 0 ∷ 0 ∷ 0 ∷ 0 ∷ 7 ∷ 0 ∷ 0 ∷ 0 ∷ 0 ∷ 0 ∷ 0 ∷ 0 ∷ 0 ∷ []) "11 0 7 3 5 8 5 connect 5"
+    -- 6.3.4.6 case 4: Idle (5), 8
+    ∷ storyLine (6 ∷ 1 ∷ 4 ∷ 0 ∷ 0 ∷ 0 ∷ 0 ∷ 7 ∷ 0 ∷ 0 ∷ 0 ∷ 3 ∷ 0 ∷ 0 ∷ 0 ∷ 0 ∷ []) "12 0 1 5 0 8 5 switch 5"
+    -- 107: connection 3 has ended
+    ∷ storyLine (6 ∷ 0 ∷ 0 ∷ 0 ∷ 0 ∷ 0 ∷ 0 ∷ 7 ∷ 0 ∷ 0 ∷ 0 ∷ 3 ∷ 0 ∷ 0 ∷ 0 ∷ 0 ∷ []) "13 107 1 5 0 8 5 -"
+    -- 6.3.6.1 case 1: Soft Triggered (5), 8
+    ∷ storyLine (1 ∷ 0 ∷ 0 ∷ 0 ∷ 0 ∷ 0 ∷ 0 ∷ 7 ∷ 0 ∷ 0 ∷ 0 ∷ 0 ∷ 0 ∷ 0 ∷ 0 ∷ 0 ∷ []) "14 0 4 5 0 8 5 -"
+    -- 6.3.6.1 case 2: disregarded
+    ∷ storyLine (1 ∷ 0 ∷ 0 ∷ 0 ∷ 0 ∷ 0 ∷ 0 ∷ 7 ∷ 0 ∷ 0 ∷ 0 ∷ 0 ∷ 0 ∷ 0 ∷ 0 ∷ 0 ∷ []) "15 0 4 5 0 8 5 -"
+    -- 6.3.6.1 case 1: Soft Proceeding (5,6), 8
+    ∷ storyLine (2 ∷ 0 ∷ 0 ∷ 0 ∷ 0 ∷ 0 ∷ 0 ∷ 7 ∷ 0 ∷ 0 ∷ 0 ∷ 0 ∷ 0 ∷ 0 ∷ 0 ∷ 0 ∷ []) "16 0 5 5 6 8 6 setup 6"
+    -- 6.3.7.1: policy yes, Idle (6), 8
+    ∷ storyLine (4 ∷ 1 ∷ 0 ∷ 0 ∷ 0 ∷ 0 ∷ 0 ∷ 7 ∷ 0 ∷ 0 ∷ 0 ∷ 6 ∷ 0 ∷ 0 ∷ 0 ∷ 0 ∷ []) "17 0 1 6 0 8 6 switch 6, release incumbent 5 #4"
+    -- 103: the key is on record
+    ∷ storyLine (0 ∷ 1 ∷ 1 ∷ 2 ∷ 0 ∷ 0 ∷ 0 ∷ 7 ∷ 0 ∷ 0 ∷ 0 ∷ 0 ∷ 0 ∷ 0 ∷ 0 ∷ 0 ∷ []) "18 103 1 6 0 8 6 -"
+    -- 6.3.4.2 case 4: hard is on and no cause came: Hard Indicated, 8
+    ∷ storyLine (6 ∷ 0 ∷ 0 ∷ 0 ∷ 0 ∷ 0 ∷ 0 ∷ 7 ∷ 0 ∷ 0 ∷ 0 ∷ 6 ∷ 0 ∷ 0 ∷ 0 ∷ 0 ∷ []) "19 0 2 0 0 8 6 timer start"
+    -- 6.3.5.10 item 1: Null, empty
+    ∷ storyLine (9 ∷ 0 ∷ 0 ∷ 0 ∷ 0 ∷ 0 ∷ 0 ∷ 7 ∷ 0 ∷ 0 ∷ 0 ∷ 0 ∷ 0 ∷ 0 ∷ 0 ∷ 0 ∷ []) "20 0 0 0 0 0 0 release called #2"
+    ∷ []

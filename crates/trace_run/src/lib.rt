@@ -1,4 +1,4 @@
-// The run of the trace: event records of 16 octets each, over a table of 64 calls by value, and a line for each record.
+// The run of the trace, at either end: event records of 16 octets each, over a table of 64 calls by value, and a line for each record.
 //
 // The keys of the table stand beside it, so that a search reads nothing else. No event is checked for 101: the table that a run is given is
 // fit, and stays so.
@@ -6,7 +6,7 @@ ghost use Prim.Native.Nat.{_+_, _≤_, _<_, _^_};
 ghost use mathlib.Core.Bool.{true};
 ghost use mathlib.Core.Path.{_≡_};
 ghost use lib.ListN.{length};
-ghost use Rattle.source_table.specs.Fit.{fitTable};
+ghost use Rattle.call_table.specs.Fit.{fitTable};
 ghost use Rattle.trace_run.specs.Run.{chunkOf};
 ghost use Rattle.trace_run.specs.Placed.{keysIn, indexOf, placeFor, refusedWith, carriedOn, workedOn, unplacedFor, stoppedAt, Stops};
 use admission::Admission;
@@ -83,22 +83,22 @@ fn refused(answer: Answer, call: Call) -> Outcome
 }
 
 // What comes of an admission at its record, which a refusal leaves as it is.
-fn carried(call: Call, key: u32, admission: Admission) -> Outcome
-    ensures { λ r. ⌜ r ≡ carriedOn call key admission ⌝ }
+fn carried(node: Node, call: Call, key: u32, admission: Admission) -> Outcome
+    ensures { λ r. ⌜ r ≡ carriedOn node call key admission ⌝ }
 {
     match admission {
         Admission::Refuses(answer) => refused(answer, call),
         Admission::Takes(wanted) => Call::opened(key, wanted),
-        Admission::Reaches(event) => call.handle(event),
+        Admission::Reaches(event) => call.handle(node, event),
     }
 }
 
 // What comes of an opening or event at the record that it goes to.
-fn worked(call: Call, key: u32, act: Act, missing: bool) -> Outcome
-    ensures { λ r. ⌜ r ≡ workedOn call key act missing ⌝ }
+fn worked(node: Node, call: Call, key: u32, act: Act, missing: bool) -> Outcome
+    ensures { λ r. ⌜ r ≡ workedOn node call key act missing ⌝ }
 {
     let admission = admission::admit(key, act, missing, false);
-    carried(call, key, admission)
+    carried(node, call, key, admission)
 }
 
 // And where it goes to none.
@@ -110,22 +110,28 @@ fn unplaced(key: u32, act: Act) -> Outcome
 }
 
 // A bad record ends a run.
-fn stopped(table: [Call; 64], at: usize, count: u64) -> Stop
-    ensures { λ r. ⌜ r ≡ stoppedAt table at count ⌝ }
+fn stopped(table: [Call; 64], at: usize, count: u64, good: bool) -> Stop
+    ensures { λ r. ⌜ r ≡ stoppedAt table at count good ⌝ }
 {
     Stop {
         table,
         at,
         count,
-        good: false,
+        good,
     }
 }
 
 // Every whole record of the input, in order, to lines at the start of the buffer; a bad one ends the run.
-pub fn run(table: [Call; 64], input: &[u8], out: &mut [u8], columns: Columns, start: u64) -> Stop
+pub fn run(
+    node: Node,
+    table: [Call; 64],
+    input: &[u8],
+    out: &mut [u8],
+    columns: Columns,
+    start: u64,
+) -> Stop
     requires { ⌜ (fitTable table ≡ true) × ((length (now input) ≤ 65536) × (start + 4096 < 2 ^ 64)) ⌝ }
-    ensures { λ r. ⌜ (r .table ≡ chunkOf columns (now (input .entry)) table start .table)
-        × Stops (chunkOf columns (now (input .entry)) table start) r (now (out .entry)) (now (out .exit)) start ⌝ }
+    ensures { λ r. ⌜ Stops (chunkOf node columns (now (input .entry)) table start) r (now (out .entry)) (now (out .exit)) start ⌝ }
 {
     let mut calls = table;
     let mut keys = keys_of(table);
@@ -134,31 +140,25 @@ pub fn run(table: [Call; 64], input: &[u8], out: &mut [u8], columns: Columns, st
     let records = input.len() / 16;
     let mut index: usize = 0;
     while index < records {
-        let decoded = decode(Node::Source, record_at(input, index * 16));
+        let decoded = decode(node, record_at(input, index * 16));
         let request = decoded.request;
         let Request::Asks(act) = request else {
             at = lines::put_word(out, at, b"bad\n");
-            return stopped(calls, at, count);
+            return stopped(calls, at, count, false);
         };
         count += 1;
-        let key = decoded.key;
-        let found = find(&keys, key);
+        let found = find(&keys, decoded.key);
         let place = place_for(&keys, found, act);
         if place < 64 {
-            let outcome = worked(calls[place], key, act, found >= 64);
+            let outcome = worked(node, calls[place], decoded.key, act, found >= 64);
             let call = outcome.call;
             calls[place] = call;
             keys[place] = call.key;
             at = trace_line::put_line(out, at, columns, count, outcome);
         } else {
-            at = trace_line::put_line(out, at, columns, count, unplaced(key, act));
+            at = trace_line::put_line(out, at, columns, count, unplaced(decoded.key, act));
         }
         index += 1;
     }
-    Stop {
-        table: calls,
-        at,
-        count,
-        good: true,
-    }
+    stopped(calls, at, count, true)
 }

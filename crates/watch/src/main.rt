@@ -1,6 +1,7 @@
 // The watch of document 01's event records (docs/BENCH.md).
+use events::Node;
 use trace_line::Columns;
 
 fn main() {
-    trace_feed::serve(Columns::Watch, b"watch");
+    trace_feed::serve(Node::Source, Columns::Watch, b"watch");
 }

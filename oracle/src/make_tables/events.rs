@@ -1,5 +1,6 @@
-//! The event that a made table meets, in the 16 octets of 01, "The trace". Most events name a key
-//! on record, so that the call itself answers, and mostly a connection that this call holds.
+//! The event that a made table of an end meets, in the 16 octets of 01, "The trace". Most events
+//! name a key on record, so that the call itself answers, and mostly a connection that this call
+//! holds.
 
 use super::records::MadeTable;
 use crate::call::{Call, State};
@@ -9,33 +10,50 @@ use crate::made_event::{
     octets, Values, CALLED_RELEASE, CALLING_RELEASE, CONNECT, EXPIRY, NO_PATH, OPENING, PATH_FOUND,
     READY, SETUP, TRIGGER,
 };
+use crate::vocabulary::Node;
 
 /// One event in eight is an opening.
-pub fn event(draw: &mut Draw, table: &MadeTable) -> [u8; EVENT_OCTETS] {
+pub fn event(node: Node, draw: &mut Draw, table: &MadeTable) -> [u8; EVENT_OCTETS] {
     if draw.one_in(8) {
-        return event_of_kind(draw, table, OPENING);
+        return event_of_kind(node, draw, table, OPENING);
     }
     let key = key(draw, table);
     let call = call_on_record(table, key);
-    let kind = if draw.one_in(2) { 1 + draw.below(9) as u8 } else { kind_with_meaning(draw, call) };
-    octets::<OfTables>(draw, kind, key, call)
+    let kind = if draw.one_in(2) {
+        1 + draw.below(9) as u8
+    } else {
+        kind_with_meaning(node, draw, call.state)
+    };
+    octets::<OfTables>(node, draw, kind, key, call)
 }
 
-pub fn event_of_kind(draw: &mut Draw, table: &MadeTable, kind: u8) -> [u8; EVENT_OCTETS] {
+pub fn event_of_kind(
+    node: Node,
+    draw: &mut Draw,
+    table: &MadeTable,
+    kind: u8,
+) -> [u8; EVENT_OCTETS] {
     let key = if kind == OPENING { opening_key(draw, table) } else { key(draw, table) };
-    octets::<OfTables>(draw, kind, key, call_on_record(table, key))
+    octets::<OfTables>(node, draw, kind, key, call_on_record(table, key))
 }
 
 /// An event that the state does not refuse with 106, but for its services.
-fn kind_with_meaning(draw: &mut Draw, call: Call) -> u8 {
-    match call.state {
+fn kind_with_meaning(node: Node, draw: &mut Draw, state: State) -> u8 {
+    match node {
+        Node::Source => kind_at_source(draw, state),
+        Node::Destination => kind_at_destination(draw, state),
+    }
+}
+
+fn kind_at_source(draw: &mut Draw, state: State) -> u8 {
+    match state {
         // No call under the key, or a damaged one.
         State::Null => draw.among([TRIGGER, SETUP, CALLING_RELEASE, CALLED_RELEASE]),
         State::ReroutingIdle { .. } => {
             draw.among([TRIGGER, SETUP, CALLING_RELEASE, CALLED_RELEASE])
         }
-        State::HardRerouteTriggered => draw.among([PATH_FOUND, NO_PATH, CALLING_RELEASE, EXPIRY]),
-        State::HardRerouteProceeding { .. } => {
+        State::HardWaiting => draw.among([PATH_FOUND, NO_PATH, CALLING_RELEASE, EXPIRY]),
+        State::HardUnderway { .. } => {
             draw.among([CONNECT, CALLING_RELEASE, CALLED_RELEASE, CALLED_RELEASE, EXPIRY])
         }
         State::SoftRerouteTriggered { .. } => {
@@ -49,6 +67,38 @@ fn kind_with_meaning(draw: &mut Draw, call: Call) -> u8 {
         }
         State::AwaitingSwitchover { .. } => {
             draw.among([SETUP, CALLING_RELEASE, CALLED_RELEASE, CALLED_RELEASE])
+        }
+    }
+}
+
+fn kind_at_destination(draw: &mut Draw, state: State) -> u8 {
+    match state {
+        // No call under the key, or a damaged one.
+        State::Null => draw.among([TRIGGER, SETUP, CALLING_RELEASE, CALLED_RELEASE]),
+        State::ReroutingIdle { .. } => {
+            draw.among([TRIGGER, SETUP, SETUP, CALLING_RELEASE, CALLING_RELEASE, CALLED_RELEASE])
+        }
+        State::HardWaiting => draw.among([SETUP, SETUP, CALLED_RELEASE, EXPIRY]),
+        State::HardUnderway { .. } => draw.among([
+            SETUP,
+            SETUP,
+            READY,
+            CALLING_RELEASE,
+            CALLING_RELEASE,
+            CALLED_RELEASE,
+            EXPIRY,
+        ]),
+        State::SoftRerouteTriggered { .. } => {
+            draw.among([PATH_FOUND, NO_PATH, SETUP, SETUP, CALLING_RELEASE, CALLED_RELEASE])
+        }
+        State::SoftRerouteProceeding { .. } => {
+            draw.among([CONNECT, SETUP, SETUP, CALLING_RELEASE, CALLING_RELEASE, CALLED_RELEASE])
+        }
+        State::SoftRerouteInitiated { .. } => {
+            draw.among([SETUP, SETUP, CALLING_RELEASE, CALLING_RELEASE, CALLED_RELEASE, READY])
+        }
+        State::AwaitingSwitchover { .. } => {
+            draw.among([SETUP, SETUP, CALLING_RELEASE, CALLING_RELEASE, CALLED_RELEASE])
         }
     }
 }
@@ -90,7 +140,7 @@ struct OfTables;
 
 impl Values for OfTables {
     /// No services in a third of the openings, else any.
-    fn opening(draw: &mut Draw, unread: u8) -> [u8; 3] {
+    fn opening(_: Node, draw: &mut Draw, unread: u8) -> [u8; 3] {
         if draw.one_in(3) {
             [0, unread, unread]
         } else {
@@ -98,9 +148,13 @@ impl Values for OfTables {
         }
     }
 
-    fn switchover_code(draw: &mut Draw) -> u8 {
+    /// Mostly such as the end takes.
+    fn switchover_code(node: Node, draw: &mut Draw) -> u8 {
         let any = draw.octet();
-        draw.among([1, 1, 1, 1, 1, 1, 0, 2, 255, any])
+        match node {
+            Node::Source => draw.among([1, 1, 1, 1, 1, 1, 0, 2, 255, any]),
+            Node::Destination => draw.among([0, 0, 0, 0, 1, 1, 1, 1, 2, 255, any]),
+        }
     }
 
     /// Below, equal to or above the number on record, or any.

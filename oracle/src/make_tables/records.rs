@@ -173,7 +173,7 @@ fn last_number(draw: &mut Draw) -> u16 {
     }
 }
 
-/// Symmetric in half of the calls, since a setup without it means nothing.
+/// Symmetric in half of the calls, since at the source a setup without it means nothing.
 fn soft(draw: &mut Draw) -> Soft {
     draw.among([Soft::None, Soft::Asymmetric, Soft::Symmetric, Soft::Symmetric])
 }
@@ -192,7 +192,7 @@ fn not_all_empty(draw: &mut Draw, call: Call) -> Call {
     match draw.below(6) {
         0 => Call { hard: true, ..Call::EMPTY },
         1 => Call { soft: draw.among([Soft::Asymmetric, Soft::Symmetric]), ..Call::EMPTY },
-        2 => Call { state: State::HardRerouteTriggered, ..Call::EMPTY },
+        2 => Call { state: State::HardWaiting, ..Call::EMPTY },
         3 => Call { last: draw.among([1, 256, 65_535]), ..Call::EMPTY },
         4 => Call { remote: draw.among(SPARSE_NUMBERS), ..Call::EMPTY },
         _ => Call { key: 0, ..call },
@@ -201,7 +201,7 @@ fn not_all_empty(draw: &mut Draw, call: Call) -> Call {
 
 /// In the one state but Null that holds nothing, so that no held number is above the last.
 fn without_last_number(_: &mut Draw, call: Call) -> Call {
-    Call { state: State::HardRerouteTriggered, last: 0, ..call }
+    Call { state: State::HardWaiting, last: 0, ..call }
 }
 
 fn holding_zero(draw: &mut Draw, call: Call) -> Call {

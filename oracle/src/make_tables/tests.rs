@@ -4,13 +4,15 @@
 use super::bad::WAY_COUNT;
 use super::events::event;
 use super::records::{Damage, MadeTable, DAMAGES};
-use super::{record_count, table, MAKER};
+use super::{maker, record_count, table};
 use crate::call::Call;
 use crate::draw::Draw;
 use crate::event_record::decode;
 use crate::table::{meet, unfit, Request, CAUSES_OF_UNFITNESS};
 use crate::tables;
-use crate::vocabulary::{Answer, SILENT};
+use crate::vocabulary::{Answer, Node, SILENT};
+
+const NODES: [Node; 2] = [Node::Source, Node::Destination];
 
 const COUNTS: [usize; 12] = [0, 1, 2, 3, 4, 5, 8, 64, 1_023, 1_024, 1_025, 1_100];
 
@@ -32,13 +34,13 @@ fn causes(table: &MadeTable) -> Vec<usize> {
     numbered.filter(|(_, cause)| cause(&table.calls)).map(|(number, _)| number).collect()
 }
 
-fn made(seed: u64, count: u64, last_is_bad: bool) -> Vec<u8> {
-    MAKER.made(seed, count, last_is_bad)
+fn made(node: Node, seed: u64, count: u64, last_is_bad: bool) -> Vec<u8> {
+    maker(node).made(seed, count, last_is_bad)
 }
 
-fn printed(octets: &[u8]) -> String {
+fn printed(node: Node, octets: &[u8]) -> String {
     let mut out = Vec::new();
-    tables::print(octets, &mut out).expect("a vector takes every byte");
+    tables::print(node, octets, &mut out).expect("a vector takes every byte");
     String::from_utf8(out).expect("cases are printed in ASCII")
 }
 
@@ -69,19 +71,26 @@ fn each_damage_is_its_own_cause() {
 
 #[test]
 fn seed_decides_alone() {
-    assert_eq!(made(7, 200, false), made(7, 200, false));
-    assert_ne!(made(7, 200, false), made(8, 200, false));
-    assert!(made(8, 200, false).starts_with(&made(8, 100, false)));
-    assert_eq!(made(7, 0, true), []);
+    for node in NODES {
+        let made = |seed, count, last_is_bad| made(node, seed, count, last_is_bad);
+        assert_eq!(made(7, 200, false), made(7, 200, false));
+        assert_ne!(made(7, 200, false), made(8, 200, false));
+        assert!(made(8, 200, false).starts_with(&made(8, 100, false)));
+        assert_eq!(made(7, 0, true), []);
+    }
 }
 
 #[test]
 fn cases_are_bad_only_where_asked() {
-    assert!(!printed(&made(9, 2_000, false)).contains("bad"));
-    for seed in 0..4 * WAY_COUNT as u64 {
-        let before = printed(&made(seed, 2, false));
-        assert_eq!(printed(&made(seed, 3, true)), before + "bad\n", "seed {seed}");
-        assert_eq!(printed(&made(seed, 1, true)), "bad\n", "seed {seed}");
+    for node in NODES {
+        let printed =
+            |seed, count, last_is_bad| printed(node, &made(node, seed, count, last_is_bad));
+        assert!(!printed(9, 2_000, false).contains("bad"));
+        for seed in 0..4 * WAY_COUNT as u64 {
+            let before = printed(seed, 2, false);
+            assert_eq!(printed(seed, 3, true), before + "bad\n", "{node:?}, seed {seed}");
+            assert_eq!(printed(seed, 1, true), "bad\n", "{node:?}, seed {seed}");
+        }
     }
 }
 
@@ -93,13 +102,17 @@ fn changed_places(before: &[Call], after: &[Call]) -> Vec<usize> {
 /// record at most: the lowest empty one for an opening, the one with the key for another event.
 #[test]
 fn table_promises_hold_over_made_cases() {
+    NODES.into_iter().for_each(table_promises);
+}
+
+fn table_promises(node: Node) {
     let mut draw = Draw::from_seed(3);
     for _ in 0..20_000 {
         let count = record_count(&mut draw);
         let table = table(&mut draw, count);
-        let asked = decode(&event(&mut draw, &table)).expect("a made event is not bad");
+        let asked = decode(node, &event(node, &mut draw, &table)).expect("a made event is not bad");
         let mut after = table.calls.clone();
-        let reply = meet(&mut after, asked.key, asked.request);
+        let reply = meet(node, &mut after, asked.key, asked.request);
         let changed = changed_places(&table.calls, &after);
         if reply.answer != Answer::Done {
             assert_eq!((changed, reply.signals), (vec![], SILENT), "{asked:?}");
@@ -111,5 +124,23 @@ fn table_promises_hold_over_made_cases() {
         assert!(!unfit(&table.calls) && !unfit(&after), "{asked:?}");
         assert!(changed.is_empty() && !opening || changed.first().copied() == place, "{asked:?}");
         assert!(changed.len() <= 1, "{asked:?}");
+    }
+}
+
+/// Every answer, and tables of every size that matters, in few cases.
+#[test]
+fn every_answer_and_size_comes_up() {
+    for node in NODES {
+        let text = printed(node, &made(node, 1, 30_000, false));
+        let cases: Vec<&str> = text.lines().filter(|line| line.starts_with("case ")).collect();
+        assert_eq!(cases.len(), 30_000);
+        for answer in [0, 101, 102, 103, 104, 105, 106, 107, 108] {
+            let with = format!(" answer {answer} n ");
+            assert!(cases.iter().any(|line| line.contains(&with)), "{node:?} {answer}");
+        }
+        for size in [0, 1, 64, 1_024, 1_025, 1_100] {
+            let with = format!(" n {size} ");
+            assert!(cases.iter().any(|line| line.contains(&with)), "{node:?} {size}");
+        }
     }
 }

@@ -3,19 +3,25 @@
 
 use crate::draw::Draw;
 use crate::event_record::EVENT_OCTETS;
+use crate::made_event::Kind;
+use crate::vocabulary::Node;
 
 #[derive(Clone, Copy, Debug)]
 enum Way {
     /// In an event of that kind the octet is not named from `lowest` up.
     Value {
-        kind: u8,
+        kind: Kind,
         octet: usize,
         lowest: u8,
     },
     CutShort,
 }
 
-const fn value(kind: u8, octet: usize, lowest: u8) -> Way {
+const fn value(number: u8, octet: usize, lowest: u8) -> Way {
+    Way::Value { kind: Kind::Numbered(number), octet, lowest }
+}
+
+const fn of_release(kind: Kind, octet: usize, lowest: u8) -> Way {
     Way::Value { kind, octet, lowest }
 }
 
@@ -31,26 +37,26 @@ const WAYS: [Way; WAY_COUNT] = [
     value(4, 1, 2),
     value(4, 8, 1),
     value(4, 9, 1),
-    // Release from the calling side: cause present or not, crankback.
-    value(6, 1, 2),
-    value(6, 3, 3),
-    // Release from the called side: the same, and the upper octets of the connection.
-    value(7, 1, 2),
-    value(7, 3, 3),
-    value(7, 8, 1),
-    value(7, 9, 1),
+    // Release from the node's own party: cause present or not, crankback.
+    of_release(Kind::FromParty, 1, 2),
+    of_release(Kind::FromParty, 3, 3),
+    // Release from across the domain: the same, and the upper octets of the connection.
+    of_release(Kind::FromDomain, 1, 2),
+    of_release(Kind::FromDomain, 3, 3),
+    of_release(Kind::FromDomain, 8, 1),
+    of_release(Kind::FromDomain, 9, 1),
     Way::CutShort,
 ];
 
 pub const WAY_COUNT: usize = 14;
 
 /// A bad record made of a good one, in the way that the seed takes.
-pub fn record(seed: u64, good: [u8; EVENT_OCTETS], draw: &mut Draw) -> Vec<u8> {
+pub fn record(node: Node, seed: u64, good: [u8; EVENT_OCTETS], draw: &mut Draw) -> Vec<u8> {
     let mut octets = good;
     match WAYS[(seed % WAY_COUNT as u64) as usize] {
         Way::Value { kind, octet, lowest } => {
             // But for that octet, all that an event of the kind reads is named.
-            octets[..4].copy_from_slice(&[kind, 1, 1, 1]);
+            octets[..4].copy_from_slice(&[kind.number(node), 1, 1, 1]);
             octets[8..10].fill(0);
             octets[octet] = draw.octet_from(lowest);
             octets.to_vec()

@@ -3,20 +3,29 @@
 use crate::call::{Call, Services, Soft};
 use crate::draw::Draw;
 use crate::made_event::Values;
-use crate::vocabulary::{Event, SwitchoverCode};
+use crate::vocabulary::{Event, Node, SwitchoverCode};
 
 /// Default services in one opening of eight; else mostly hard on and symmetric soft, with which
-/// every event has a meaning somewhere.
-pub fn opening(draw: &mut Draw) -> Option<Services> {
+/// every event has a meaning somewhere. At the destination a setup has one with any service.
+pub fn opening(node: Node, draw: &mut Draw) -> Option<Services> {
     let hard = draw.among([true, true, false]);
-    let soft = draw.among([
-        Soft::None,
-        Soft::Asymmetric,
-        Soft::Symmetric,
-        Soft::Symmetric,
-        Soft::Symmetric,
-        Soft::Symmetric,
-    ]);
+    let soft = match node {
+        Node::Source => draw.among([
+            Soft::None,
+            Soft::Asymmetric,
+            Soft::Symmetric,
+            Soft::Symmetric,
+            Soft::Symmetric,
+            Soft::Symmetric,
+        ]),
+        Node::Destination => draw.among([
+            Soft::None,
+            Soft::Asymmetric,
+            Soft::Symmetric,
+            Soft::Symmetric,
+            Soft::Symmetric,
+        ]),
+    };
     if draw.one_in(8) {
         None
     } else {
@@ -24,32 +33,35 @@ pub fn opening(draw: &mut Draw) -> Option<Services> {
     }
 }
 
-/// A setup that is newer by one, and asks for the switchover that is known.
-pub fn newer_setup(call: Call) -> Event {
+/// A setup that is newer by one, with that switchover.
+pub fn newer_setup(call: Call, switchover: SwitchoverCode) -> Event {
     let number = call.remote.saturating_add(1);
-    Event::Setup { switchover: SwitchoverCode::CLEARING, number }
+    Event::Setup { switchover, number }
 }
 
 pub struct OfRuns;
 
 impl Values for OfRuns {
-    fn opening(draw: &mut Draw, unread: u8) -> [u8; 3] {
-        match opening(draw) {
+    fn opening(node: Node, draw: &mut Draw, unread: u8) -> [u8; 3] {
+        match opening(node, draw) {
             None => [0, unread, unread],
             Some(Services { hard, soft }) => [1, u8::from(hard), soft.number()],
         }
     }
 
-    fn switchover_code(draw: &mut Draw) -> u8 {
+    /// Mostly such as the end takes.
+    fn switchover_code(node: Node, draw: &mut Draw) -> u8 {
         let any = draw.octet();
-        if draw.one_in(8) {
-            draw.among([0, 0, 2, 255, any])
-        } else {
-            1
+        match (node, draw.one_in(8)) {
+            (Node::Source, true) => draw.among([0, 0, 2, 255, any]),
+            (Node::Source, false) => 1,
+            (Node::Destination, true) => draw.among([2, 255, any]),
+            (Node::Destination, false) => draw.among([0, 1]),
         }
     }
 
-    /// Mostly newer by one; sometimes late, and seldom far ahead, since every later one is late then.
+    /// Mostly newer by one; sometimes late, and seldom far ahead, since every later one is late
+    /// then.
     fn incarnation_number(draw: &mut Draw, call: Call) -> u32 {
         let above = call.remote.saturating_add(1);
         let far = draw.word();
@@ -61,7 +73,8 @@ impl Values for OfRuns {
         }
     }
 
-    /// Mostly one that the call holds; else the last given, the next, a small one, 0 or the greatest.
+    /// Mostly one that the call holds; else the last given, the next, a small one, 0 or the
+    /// greatest.
     fn connection(draw: &mut Draw, call: Call) -> u32 {
         let incumbent = call.state.incumbent().unwrap_or(0);
         let rerouting = call.state.rerouting().unwrap_or(incumbent);

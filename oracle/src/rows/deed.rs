@@ -1,14 +1,14 @@
 //! What was done, in the words of the list.
 
 use crate::call::{Call, Outcome};
-use crate::rows::terms::STATES;
+use crate::rows::terms::states;
 use crate::vocabulary::{
-    Answer, CauseCode, ReroutingCause, SentCause, Signal, SignalKind, Signals,
+    Answer, CauseCode, Node, ReroutingCause, SentCause, Signal, SignalKind, Signals,
 };
 
 /// `refused N`, `stays: SIGNALS` or `to STATE: SIGNALS`. A refusal that changed or sent something
 /// is none of these.
-pub fn deed(before: Call, after: &Outcome) -> String {
+pub fn deed(node: Node, before: Call, after: &Outcome) -> String {
     let stays = after.call == before;
     let signals = signal_words(&after.signals);
     if after.answer != Answer::Done {
@@ -19,7 +19,7 @@ pub fn deed(before: Call, after: &Outcome) -> String {
     if stays {
         return format!("stays: {signals}");
     }
-    format!("to {}: {signals}", STATES[usize::from(after.call.state.number())])
+    format!("to {}: {signals}", states(node)[usize::from(after.call.state.number())])
 }
 
 const NOTHING: &str = "nothing sent";
@@ -46,6 +46,7 @@ fn one_signal(signal: &Signal) -> String {
         SignalKind::Setup => "setup",
         SignalKind::Connect => "connect",
         SignalKind::Reject => "reject",
+        SignalKind::ReleaseCalled => "release called",
     };
     let cause = match signal.rerouting_cause {
         SentCause::Absent => String::new(),

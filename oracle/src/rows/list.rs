@@ -1,7 +1,8 @@
 //! The list, read: a row a line, `name; state; event; condition; what is done; place`, and behind
 //! that `; unreachable: ` and why, of a row that no run from an empty table reaches.
 
-use crate::rows::terms::{Met, Terms, EVENTS, STATES};
+use crate::rows::terms::{states, Met, Terms, EVENTS, STATE_COUNT};
+use crate::vocabulary::Node;
 
 /// What stands in front of the reason.
 const UNREACHABLE: &str = "unreachable: ";
@@ -23,13 +24,13 @@ pub struct List {
 
 impl List {
     /// A line each for what is no row, and for rows that are listed twice.
-    pub fn of_text(text: &str) -> Result<Self, Vec<String>> {
+    pub fn of_text(node: Node, text: &str) -> Result<Self, Vec<String>> {
         let (mut rows, mut faults) = (Vec::new(), Vec::new());
         for (place, line) in text.lines().enumerate() {
             if line.is_empty() || line.starts_with('#') {
                 continue;
             }
-            match row(line) {
+            match row(node, line) {
                 Ok(row) => rows.push(row),
                 Err(fault) => faults.push(format!("line {}: {fault}", place + 1)),
             }
@@ -38,7 +39,7 @@ impl List {
         if !faults.is_empty() {
             return Err(faults);
         }
-        let mut of_cell = vec![Vec::new(); STATES.len() * EVENTS.len()];
+        let mut of_cell = vec![Vec::new(); STATE_COUNT * EVENTS.len()];
         for (place, row) in rows.iter().enumerate() {
             of_cell[cell(&row.met)].push(place);
         }
@@ -56,7 +57,7 @@ fn cell(met: &Met) -> usize {
     met.state * EVENTS.len() + met.event
 }
 
-fn row(line: &str) -> Result<Row, String> {
+fn row(node: Node, line: &str) -> Result<Row, String> {
     let fields: Vec<&str> = line.split("; ").collect();
     let (fields, reason) = match fields.as_slice() {
         [fields @ .., reason] if fields.len() == 6 => (fields, Some(*reason)),
@@ -68,12 +69,12 @@ fn row(line: &str) -> Result<Row, String> {
     if reason.is_some_and(|reason| !reason.starts_with(UNREACHABLE)) {
         return Err(format!("the last part does not begin with `{UNREACHABLE}`"));
     }
-    let state = place_in(&STATES, state).ok_or(format!("`{state}` is no state"))?;
+    let state = place_in(states(node), state).ok_or(format!("`{state}` is no state"))?;
     let event = place_in(&EVENTS, event).ok_or(format!("`{event}` is no event"))?;
     let terms = Terms::of_text(condition).map_err(|word| format!("`{word}` is no term"))?;
     Ok(Row {
         name: name.to_string(),
-        met: Met { state, event, terms },
+        met: Met { node, state, event, terms },
         done: done.to_string(),
         unreachable: reason.is_some(),
     })

@@ -9,8 +9,10 @@ use crate::rows::deed::deed;
 use crate::rows::list::{List, Row};
 use crate::rows::terms::Met;
 use crate::trace_table::TraceTable;
+use crate::vocabulary::Node;
 
 pub struct Tally<'a> {
+    node: Node,
     list: &'a List,
     counts: Vec<u64>,
     /// How runs ended that did not end behind a good record.
@@ -20,8 +22,9 @@ pub struct Tally<'a> {
 }
 
 impl<'a> Tally<'a> {
-    pub fn new(list: &'a List) -> Self {
+    pub fn new(node: Node, list: &'a List) -> Self {
         Self {
+            node,
             list,
             counts: vec![0; list.rows.len()],
             bad_ends: Vec::new(),
@@ -31,7 +34,7 @@ impl<'a> Tally<'a> {
 
     /// A run of records that come from an input. A bad one fits no row and ends the run.
     pub fn read_run(&mut self, input: &mut impl Read, out: &mut impl Write) -> Result<()> {
-        let mut table = TraceTable::EMPTY;
+        let mut table = TraceTable::empty(self.node);
         let mut number: u64 = 0;
         let end = for_each(input, out, |octets, _| {
             number += 1;
@@ -46,7 +49,7 @@ impl<'a> Tally<'a> {
     }
 
     pub fn made_run(&mut self, records: impl Iterator<Item = [u8; EVENT_OCTETS]>) {
-        let mut table = TraceTable::EMPTY;
+        let mut table = TraceTable::empty(self.node);
         for octets in records {
             if !self.meet(&mut table, &octets) {
                 self.bad_ends.push(format!("made record {octets:?} is bad"));
@@ -56,12 +59,12 @@ impl<'a> Tally<'a> {
 
     /// Counts one event, and carries it out; not where it is bad.
     fn meet(&mut self, table: &mut TraceTable, octets: &[u8; EVENT_OCTETS]) -> bool {
-        let Some(asked) = decode(octets) else {
+        let Some(asked) = decode(self.node, octets) else {
             return false;
         };
-        let met = Met::before(&asked, table);
+        let met = Met::before(self.node, &asked, table);
         let before = table.call(asked.key);
-        let done = deed(before, &table.meet(&asked));
+        let done = deed(self.node, before, &table.meet(&asked));
         let list = self.list;
         let mut fitting = list.fitting(met);
         match (fitting.next(), fitting.next()) {

@@ -4,17 +4,40 @@ use std::cmp::Ordering;
 use std::fmt::{Display, Formatter};
 
 use crate::call::{Call, Services, Soft, State};
-use crate::event_record::EventRecord;
+use crate::event_record::{release_kind, EventRecord};
 use crate::table::Request;
 use crate::trace_table::TraceTable;
-use crate::vocabulary::{CalledRelease, Crankback, Event, Policy, ReroutingCause, SwitchoverCode};
+use crate::vocabulary::{
+    Crankback, DomainRelease, Event, Node, Policy, ReroutingCause, SwitchoverCode,
+};
 
-/// The words of the list for the states 0 to 7, and for what an event meets that meets no call.
-pub const STATES: [&str; 10] = [
+/// The words of an end's list for the states 0 to 7, and for what an event meets that meets no
+/// call.
+pub fn states(node: Node) -> &'static [&'static str; STATE_COUNT] {
+    match node {
+        Node::Source => &SOURCE_STATES,
+        Node::Destination => &DESTINATION_STATES,
+    }
+}
+
+pub const STATE_COUNT: usize = 10;
+const SOURCE_STATES: [&str; STATE_COUNT] = [
     "Null",
     "Idle",
     "Hard Triggered",
     "Hard Proceeding",
+    "Soft Triggered",
+    "Soft Proceeding",
+    "Soft Initiated",
+    "Awaiting",
+    "none",
+    "any",
+];
+const DESTINATION_STATES: [&str; STATE_COUNT] = [
+    "Null",
+    "Idle",
+    "Hard Indicated",
+    "Hard Initiated",
     "Soft Triggered",
     "Soft Proceeding",
     "Soft Initiated",
@@ -37,6 +60,8 @@ enum Term {
     NoEmptyRecord,
     DefaultServices,
     NamedServices,
+    NoService,
+    AService,
     HardOff,
     HardOn,
     SoftNone,
@@ -67,12 +92,14 @@ enum Term {
     NoneFound,
 }
 
-const TERMS: [(&str, Term); 33] = [
+const TERMS: [(&str, Term); 35] = [
     ("key 0", Term::KeyZero),
     ("empty record", Term::EmptyRecord),
     ("no empty record", Term::NoEmptyRecord),
     ("default services", Term::DefaultServices),
     ("named services", Term::NamedServices),
+    ("no service", Term::NoService),
+    ("a service", Term::AService),
     ("hard off", Term::HardOff),
     ("hard on", Term::HardOn),
     ("soft none", Term::SoftNone),
@@ -145,16 +172,17 @@ impl Display for Terms {
 /// that holds.
 #[derive(Clone, Copy, Debug, PartialEq, Eq)]
 pub struct Met {
+    pub node: Node,
     pub state: usize,
     pub event: usize,
     pub terms: Terms,
 }
 
 impl Met {
-    pub fn before(asked: &EventRecord, table: &TraceTable) -> Self {
+    pub fn before(node: Node, asked: &EventRecord, table: &TraceTable) -> Self {
         let mut met = match asked.request {
-            Request::Opening(named) => Self::opening(named, table.is_full()),
-            Request::Event(event) => Self::event(event, table.call(asked.key)),
+            Request::Opening(named) => Self::opening(node, named, table.is_full()),
+            Request::Event(event) => Self::event(node, event, table.call(asked.key)),
         };
         met.state = match (asked.key, table.call(asked.key)) {
             (0, _) => ANY,
@@ -167,37 +195,42 @@ impl Met {
         met
     }
 
-    fn opening(named: Option<Services>, full: bool) -> Self {
+    fn opening(node: Node, named: Option<Services>, full: bool) -> Self {
         let mut terms = Terms::default();
         terms.add(if full { Term::NoEmptyRecord } else { Term::EmptyRecord });
         match named {
             None => terms.add(Term::DefaultServices),
             Some(services) => {
                 terms.add(Term::NamedServices);
-                service_terms(&mut terms, services);
+                service_terms(&mut terms, node, services);
             }
         }
-        Self { state: NO_CALL, event: 0, terms }
+        Self { node, state: NO_CALL, event: 0, terms }
     }
 
     /// An event that meets a call, whatever its key.
-    pub fn event(event: Event, call: Call) -> Self {
+    pub fn event(node: Node, event: Event, call: Call) -> Self {
         let Call { hard, soft, last, .. } = call;
         let mut terms = Terms::default();
-        service_terms(&mut terms, Services { hard, soft });
+        service_terms(&mut terms, node, Services { hard, soft });
         terms.add(if last == u16::MAX { Term::LastSpent } else { Term::LastBelow });
-        let number = event_terms(&mut terms, event, call);
-        Self { state: usize::from(call.state.number()), event: number, terms }
+        let number = event_terms(&mut terms, node, event, call);
+        Self { node, state: usize::from(call.state.number()), event: number, terms }
     }
 }
 
 impl Display for Met {
     fn fmt(&self, out: &mut Formatter<'_>) -> std::fmt::Result {
-        write!(out, "{}; {}; {}", STATES[self.state], EVENTS[self.event], self.terms)
+        write!(out, "{}; {}; {}", states(self.node)[self.state], EVENTS[self.event], self.terms)
     }
 }
 
-fn service_terms(terms: &mut Terms, Services { hard, soft }: Services) {
+/// At the destination alone a row asks for any service at all (decision 58).
+fn service_terms(terms: &mut Terms, node: Node, Services { hard, soft }: Services) {
+    if node == Node::Destination {
+        let none = !hard && soft == Soft::None;
+        terms.add(if none { Term::NoService } else { Term::AService });
+    }
     terms.add(if hard { Term::HardOn } else { Term::HardOff });
     terms.add(if soft == Soft::None { Term::SoftNone } else { Term::SoftService });
     match soft {
@@ -208,7 +241,7 @@ fn service_terms(terms: &mut Terms, Services { hard, soft }: Services) {
 }
 
 /// The terms of an event's values; hands back its number.
-fn event_terms(terms: &mut Terms, event: Event, call: Call) -> usize {
+fn event_terms(terms: &mut Terms, node: Node, event: Event, call: Call) -> usize {
     match event {
         Event::Trigger => 1,
         Event::PathFound => 2,
@@ -222,11 +255,11 @@ fn event_terms(terms: &mut Terms, event: Event, call: Call) -> usize {
             setup_terms(terms, switchover, number.cmp(&call.remote));
             5
         }
-        Event::CallingRelease { cause } => {
+        Event::FromParty { cause } => {
             cause_terms(terms, cause);
-            6
+            usize::from(release_kind(node.party()))
         }
-        Event::CalledRelease(CalledRelease { connection, cause, crankback }) => {
+        Event::FromDomain(DomainRelease { connection, cause, crankback }) => {
             connection_terms(terms, connection, call.state);
             cause_terms(terms, cause);
             terms.add(match crankback {
@@ -234,7 +267,7 @@ fn event_terms(terms: &mut Terms, event: Event, call: Call) -> usize {
                 Crankback::AlternateFound => Term::AlternateFound,
                 Crankback::NoneFound => Term::NoneFound,
             });
-            7
+            usize::from(release_kind(node.domain()))
         }
         Event::Ready => 8,
         Event::TimerExpiry => 9,

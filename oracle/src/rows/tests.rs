@@ -8,21 +8,33 @@ use super::list::List;
 use super::terms::Met;
 use super::{print, Made, Runs};
 use crate::call::Call;
+use crate::vocabulary::Node;
 use crate::{cells, script};
 
 const LIST: &str = include_str!("../../rows.txt");
+const DESTINATION_LIST: &str = include_str!("../../destination_rows.txt");
 
-/// The counts, and the lines of the complaint.
+/// Each end with its list, and how many rows that has.
+const LISTS: [(Node, &str, usize); 2] =
+    [(Node::Source, LIST, 263), (Node::Destination, DESTINATION_LIST, 314)];
+
+/// The counts of the source, and the lines of the complaint.
 fn counted(list: &str, all: bool, input: &[u8]) -> (String, Vec<String>) {
+    counted_at(Node::Source, list, all, input)
+}
+
+fn counted_at(node: Node, list: &str, all: bool, input: &[u8]) -> (String, Vec<String>) {
     let mut out = Vec::new();
-    let told = print(list, all, Runs::Read(input), &mut out).expect("a vector takes every byte");
+    let told = print(node, list, all, Runs::Read(input), &mut out);
+    let told = told.expect("a vector takes every byte");
     let counts = String::from_utf8(out).expect("lines are text");
     (counts, told.unwrap_or_default().lines().map(String::from).collect())
 }
 
 fn scripted(lines: &str) -> Vec<u8> {
     let mut octets = Vec::new();
-    let told = script::print(lines.as_bytes(), &mut octets).expect("a vector takes every byte");
+    let told = script::print(Node::Source, lines.as_bytes(), &mut octets)
+        .expect("a vector takes every byte");
     assert_eq!(told, None, "{lines}");
     octets
 }
@@ -35,15 +47,21 @@ fn numbers_differ(call: &Call) -> bool {
 /// one row fits, and says what is done. So the unreachable rows are held to it as well.
 #[test]
 fn every_cell_has_one_row() {
-    let list = List::of_text(LIST).expect("the list is sound");
+    for (node, list, _) in LISTS {
+        cells_have_one_row(node, list);
+    }
+}
+
+fn cells_have_one_row(node: Node, list: &str) {
+    let list = List::of_text(node, list).expect("the list is sound");
     let mut met_rows = vec![false; list.rows.len()];
     for call in (0..=7).flat_map(cells::records).filter(numbers_differ) {
-        for event in cells::events() {
-            let met = Met::event(event, call);
+        for event in cells::events(node) {
+            let met = Met::event(node, event, call);
             let rows: Vec<usize> = list.fitting(met).collect();
             assert_eq!(rows.len(), 1, "{met}");
             let row = &list.rows[rows[0]];
-            assert_eq!(deed(call, &call.after(event)), row.done, "{}", row.name);
+            assert_eq!(deed(node, call, &call.after(node, event)), row.done, "{}", row.name);
             met_rows[rows[0]] = true;
         }
     }
@@ -60,25 +78,42 @@ fn every_cell_has_one_row() {
 #[test]
 fn made_runs_fit_the_list() {
     let made = [Made { seed: 1, count: 60_000 }, Made { seed: 2, count: 1_000 }];
-    let mut out = Vec::new();
-    let runs: Runs<Empty> = Runs::Made(&made);
-    let told = print(LIST, false, runs, &mut out).expect("a vector takes every byte");
-    assert_eq!(told, None);
-    let text = String::from_utf8(out).expect("lines are text");
-    let count = |line: &str| line.split_once(' ').and_then(|(count, _)| count.parse().ok());
-    let counts: Vec<u64> = text.lines().filter_map(count).collect();
-    assert_eq!((counts.len(), counts.iter().sum::<u64>()), (263, 61_000));
+    for (node, list, rows) in LISTS {
+        let mut out = Vec::new();
+        let runs: Runs<Empty> = Runs::Made(&made);
+        let told = print(node, list, false, runs, &mut out).expect("a vector takes every byte");
+        assert_eq!(told, None);
+        let text = String::from_utf8(out).expect("lines are text");
+        let count = |line: &str| line.split_once(' ').and_then(|(count, _)| count.parse().ok());
+        let counts: Vec<u64> = text.lines().filter_map(count).collect();
+        assert_eq!((counts.len(), counts.iter().sum::<u64>()), (rows, 61_000));
+    }
 }
 
 /// What is not reached soon is unreachable, or needs the last number.
 #[test]
 fn rows_below_the_last_number_are_reached_soon() {
     let made = [Made { seed: 3, count: 150_000 }];
-    let runs: Runs<Empty> = Runs::Made(&made);
-    let told = print(LIST, true, runs, &mut Vec::new()).expect("a vector takes every byte");
-    for line in told.unwrap_or_default().lines() {
-        assert!(line.ends_with("-spent is not reached"), "{line}");
+    for (node, list, _) in LISTS {
+        let runs: Runs<Empty> = Runs::Made(&made);
+        let told = print(node, list, true, runs, &mut Vec::new());
+        for line in told.expect("a vector takes every byte").unwrap_or_default().lines() {
+            assert!(line.ends_with("-spent is not reached"), "{line}");
+        }
     }
+}
+
+/// The runs that docs/BENCH.md names for the destination.
+#[test]
+fn five_runs_reach_every_row_of_the_destination() {
+    let made = [1, 2, 3, 4, 6].map(|seed| Made { seed, count: 500_000 });
+    let runs: Runs<Empty> = Runs::Made(&made);
+    let mut out = Vec::new();
+    let told = print(Node::Destination, DESTINATION_LIST, true, runs, &mut out);
+    assert_eq!(told.expect("a vector takes every byte"), None);
+    let text = String::from_utf8(out).expect("lines are text");
+    let seldom = |line: &&str| ["1 ", "2 ", "3 "].iter().any(|count| line.starts_with(count));
+    assert_eq!(text.lines().filter(seldom).count(), 0, "{text}");
 }
 
 const TWO_ROWS: &str = "# a comment\n\n\
@@ -176,4 +211,19 @@ fn runs_are_asked_for_by_seed_and_count() {
     for word in ["", ":", "4", "4:", ":4", "a:1", "1:b", "1:2:3", "-1:2"] {
         assert_eq!(Made::of_word(word), None, "{word}");
     }
+}
+
+/// The words of the states are the end's own, and what is said stands under the program's name.
+#[test]
+fn lists_of_the_destination_have_its_states() {
+    let row = "waits; Hard Indicated; ready; -; refused 106; decision 60\n";
+    let told = counted_at(Node::Destination, row, true, &[]).1;
+    assert_eq!(told, ["destination_rows: waits is not reached"]);
+    let fault = ["rows: line 1: `Hard Indicated` is no state"];
+    assert_eq!(counted(row, false, &[]).1, fault);
+    let run = scripted("open 7 hard none\nready 7");
+    let told = counted_at(Node::Destination, TWO_ROWS, false, &run).1;
+    let terms = "a service, hard on, soft none, last below 65535";
+    let line = format!("destination_rows: no row fits Idle; ready; {terms} (events: 1)");
+    assert_eq!(told, [line]);
 }

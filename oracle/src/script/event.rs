@@ -1,11 +1,13 @@
-//! The event that the words of a line name, or what was expected of the first word that does not
-//! fit.
+//! The event of an end that the words of a line name, or what was expected of the first word that
+//! does not fit.
 
 use super::line::Word;
 use crate::call::{Services, Soft};
 use crate::event_record::EventRecord;
 use crate::table::Request;
-use crate::vocabulary::{CalledRelease, Crankback, Event, Policy, ReroutingCause, SwitchoverCode};
+use crate::vocabulary::{
+    Crankback, DomainRelease, Event, Node, Policy, ReroutingCause, Side, SwitchoverCode,
+};
 
 /// What stood there, or what was expected.
 type Expected<Value> = Result<Value, &'static str>;
@@ -24,18 +26,21 @@ const CAUSE_OR_CRANKBACK: &str = "cause, alternate, noalternate or nothing more"
 const CRANKBACK: &str = "alternate, noalternate or nothing more";
 const NOTHING_MORE: &str = "nothing more";
 
-pub fn event(words: &[Word]) -> Expected<EventRecord> {
+/// Reads the values of one event.
+type OfEvent = fn(&mut Rest) -> Expected<Request>;
+
+pub fn event(node: Node, words: &[Word]) -> Expected<EventRecord> {
     let mut rest = Rest(words);
     let name = rest.next().ok_or(EVENT)?.text();
-    let of_event: fn(&mut Rest) -> Expected<Request> = match name {
+    let of_event: OfEvent = match name {
         b"open" => opening,
         b"trigger" => |_| Ok(Request::Event(Event::Trigger)),
         b"path" => |_| Ok(Request::Event(Event::PathFound)),
         b"nopath" => |_| Ok(Request::Event(Event::NoPath)),
         b"connect" => connect,
         b"setup" => setup,
-        b"calling" => calling_release,
-        b"called" => called_release,
+        b"calling" => of_release(node, Side::Calling),
+        b"called" => of_release(node, Side::Called),
         b"ready" => |_| Ok(Request::Event(Event::Ready)),
         b"expiry" => |_| Ok(Request::Event(Event::TimerExpiry)),
         _ => return Err(EVENT),
@@ -109,22 +114,31 @@ fn setup(rest: &mut Rest) -> Expected<Request> {
     Ok(Request::Event(Event::Setup { switchover, number }))
 }
 
-fn calling_release(rest: &mut Rest) -> Expected<Request> {
+/// The release from across the domain names a connection, the party's own does not (decision 76).
+fn of_release(node: Node, side: Side) -> OfEvent {
+    if side == node.party() {
+        party_release
+    } else {
+        domain_release
+    }
+}
+
+fn party_release(rest: &mut Rest) -> Expected<Request> {
     let cause = match rest.text() {
         None => None,
         Some(b"cause") => Some(rest.cause()?),
         Some(_) => return Err(CAUSE_WORD),
     };
-    Ok(Request::Event(Event::CallingRelease { cause }))
+    Ok(Request::Event(Event::FromParty { cause }))
 }
 
-fn called_release(rest: &mut Rest) -> Expected<Request> {
+fn domain_release(rest: &mut Rest) -> Expected<Request> {
     let connection = rest.number(CONNECTION)?;
     let (cause, crankback) = match rest.text() {
         Some(b"cause") => (Some(rest.cause()?), crankback(rest.text(), CRANKBACK)?),
         other => (None, crankback(other, CAUSE_OR_CRANKBACK)?),
     };
-    Ok(Request::Event(Event::CalledRelease(CalledRelease { connection, cause, crankback })))
+    Ok(Request::Event(Event::FromDomain(DomainRelease { connection, cause, crankback })))
 }
 
 fn crankback(word: Option<&[u8]>, expected: &'static str) -> Expected<Crankback> {

@@ -10,7 +10,8 @@ const MOST_OCTETS: usize = 4_096;
 /// Expected of a line that has more.
 pub const LENGTH: &str = "at most 4096 octets before a comment or the end of the line";
 
-/// `called KEY CONNECTION cause N noalternate` is the longest, and one word more is one too many.
+/// `called KEY CONNECTION cause N noalternate` is the longest, at the destination `calling ..`, and
+/// one word more is one too many.
 const MOST_WORDS: usize = 6 + 1;
 
 /// `noalternate` is the longest of the words that are no numbers.

@@ -1,12 +1,17 @@
 //! Each form of a line, what may stand around it, and each way in which a line names no event.
 
 use super::print;
+use crate::vocabulary::Node;
 
 type Octets = [u8; 16];
 
 fn scripted(lines: &[u8]) -> (Vec<u8>, Option<String>) {
+    scripted_at(Node::Source, lines)
+}
+
+fn scripted_at(node: Node, lines: &[u8]) -> (Vec<u8>, Option<String>) {
     let mut out = Vec::new();
-    let complaint = print(lines, &mut out).expect("a vector takes every byte");
+    let complaint = print(node, lines, &mut out).expect("a vector takes every byte");
     (out, complaint)
 }
 
@@ -201,4 +206,46 @@ fn length_is_judged_before_the_words() {
     names_nothing(&[b'\xff'; 100_000], length);
     names_nothing(format!("close 7 {}", "x ".repeat(2_045)).as_bytes(), length);
     names_nothing(format!("trigger 7 {}", "7 ".repeat(50_000)).as_bytes(), length);
+}
+
+/// The words `calling` and `called` change about, and all else is as at the source (decision 76).
+#[test]
+fn releases_of_the_destination() {
+    for (line, head, number) in [
+        ("called 7", [7, 0, 0, 0], 0),
+        ("called 7 cause 255", [7, 1, 255, 0], 0),
+        ("calling 7 3", [6, 0, 0, 0], 3),
+        ("calling 7 3 cause 0", [6, 1, 0, 0], 3),
+        ("calling 7 3 alternate", [6, 0, 0, 1], 3),
+        ("calling 7 3 cause 4 noalternate", [6, 1, 4, 2], 3),
+        ("connect 7 65535 no", [4, 0, 0, 0], 65_535),
+        ("setup 7 immediate 9", [5, 0, 0, 0], 9),
+    ] {
+        let expected = (octets(head, number).to_vec(), None);
+        assert_eq!(scripted_at(Node::Destination, line.as_bytes()), expected, "{line}");
+    }
+}
+
+#[test]
+fn lines_that_name_nothing_at_the_destination() {
+    for (line, expected) in [
+        ("close 7", EVENT),
+        ("called 7 3", "cause or nothing more"),
+        ("called 7 alternate", "cause or nothing more"),
+        ("called 7 cause", "a cause, 0 to 255"),
+        ("called 7 cause 4 alternate", "nothing more"),
+        ("calling 7", CONNECTION),
+        ("calling 7 cause 4", CONNECTION),
+        ("calling 7 65536", CONNECTION),
+        ("calling 7 3 crankback", "cause, alternate, noalternate or nothing more"),
+        ("calling 7 3 cause 256", "a cause, 0 to 255"),
+        ("calling 7 3 cause 4 cause 4", "alternate, noalternate or nothing more"),
+        ("calling 7 3 cause 4 alternate alternate", "nothing more"),
+    ] {
+        let lines = format!("trigger 7\n\n{line}\ntrigger 7\n");
+        let out = [&octets(TRIGGER, 0)[..], &[255]].concat();
+        let complaint = format!("destination_script: line 3: expected {expected}");
+        let told = scripted_at(Node::Destination, lines.as_bytes());
+        assert_eq!(told, (out, Some(complaint)), "{line}");
+    }
 }

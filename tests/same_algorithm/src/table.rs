@@ -1,9 +1,9 @@
-//! The checked entry over a row of records, as crates/source_table and crates/distinct have it: one
+//! The checked entry over a row of records, as crates/call_table and crates/distinct have it: one
 //! reading of the records, which copies the keys beside them; the keys along chains of 1,024 slots;
 //! then the decision, and one record put back.
 
 use crate::call::{Call, Outcome, Services, State};
-use crate::vocabulary::{Answer, Event, Signals, SILENT};
+use crate::vocabulary::{Answer, Event, Node, Signals, SILENT};
 
 const MOST_RECORDS: usize = 1_024;
 const SLOTS: usize = 1_024;
@@ -34,7 +34,7 @@ struct Seen {
 /// The entry that is counted: under a name of its own, and never a part of its caller.
 #[inline(never)]
 #[export_name = "same_algorithm::meet"]
-pub fn meet(table: &mut [Call], key: u32, request: Request) -> Reply {
+pub fn meet(node: Node, table: &mut [Call], key: u32, request: Request) -> Reply {
     let mut keys = [0; MOST_RECORDS];
     let seen = survey(table, key, &mut keys);
     if !(table.len() <= MOST_RECORDS && distinct(&keys[..table.len()]) && seen.sound) {
@@ -45,7 +45,7 @@ pub fn meet(table: &mut [Call], key: u32, request: Request) -> Reply {
     }
     match request {
         Request::Opening(named) => open(table, &seen, key, named),
-        Request::Event(event) => event_on_record(table, &seen, event),
+        Request::Event(event) => event_on_record(node, table, &seen, event),
     }
 }
 
@@ -57,10 +57,10 @@ fn open(table: &mut [Call], seen: &Seen, key: u32, named: Option<Services>) -> R
     }
 }
 
-fn event_on_record(table: &mut [Call], seen: &Seen, event: Event) -> Reply {
+fn event_on_record(node: Node, table: &mut [Call], seen: &Seen, event: Event) -> Reply {
     match seen.found {
         None => refused(Answer::KeyNotOnRecord),
-        Some(place) => put(table, place, table[place].after(event)),
+        Some(place) => put(table, place, table[place].after(node, event)),
     }
 }
 
@@ -99,10 +99,10 @@ fn is_fit(call: &Call) -> bool {
     call.last != 0
         && match call.state {
             State::Null => false,
-            State::HardRerouteTriggered => true,
+            State::HardWaiting => true,
             State::ReroutingIdle { incumbent } => within(incumbent),
             State::SoftRerouteTriggered { incumbent } => within(incumbent),
-            State::HardRerouteProceeding { rerouting } => within(rerouting),
+            State::HardUnderway { rerouting } => within(rerouting),
             State::SoftRerouteProceeding { incumbent, rerouting }
             | State::SoftRerouteInitiated { incumbent, rerouting }
             | State::AwaitingSwitchover { incumbent, rerouting } => {

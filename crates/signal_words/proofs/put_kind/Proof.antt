@@ -35,11 +35,17 @@ returns-9 c = rw (c .before .before .before .before .before .enum-told9 .given .
 returns-10 : tie.Need-returns-10
 returns-10 c = rw (c .before .before .before .before .before .enum-told10 .given .1) (c .before .before .put-word4 .ensures)
 
+returns-11 : tie.Need-returns-11
+returns-11 c = rw (c .before .before .before .before .before .enum-told11 .given .1) (c .before .before .put-word5 .ensures)
+
 pub put-kind-spec : {M : Type 1} → statement M
 put-kind-spec =
     tie.close
     (tie.spec
     (λ c. search needs)
+    (λ c. search needs)
+    (λ c. search needs)
+    (λ c κs. search needs)
     (λ c. search needs)
     (λ c. search needs)
     (λ c κs. search needs)
@@ -85,4 +91,6 @@ put-kind-spec =
     (λ c. search needs)
     returns-9
     (λ c. search needs)
-    returns-10)
+    returns-10
+    (λ c. search needs)
+    returns-11)

@@ -4,21 +4,22 @@ use Rattle.source_releases.proofs.awaiting_dropped.Statement.{statement
 use Rattle.source_releases.proofs.awaiting_dropped.Tie as tie
 
 returns : tie.Need-returns
-returns c = simp (c .back-to-idle .ensures, c .before .before .before .class-of .ensures, c .before .enum-told .given .1)
+returns c = simp (c .moved .ensures, c .before .before .before .class-of .ensures, c .before .enum-told .given .1)
 
 returns-2 : tie.Need-returns-2
-returns-2 c = simp (c .told-and-released .ensures, c .before .before .before .class-of .ensures, c .before .enum-told2 .given .1)
+returns-2 c = simp (c .told .ensures, c .before .before .before .class-of .ensures, c .before .before .before .before .release .ensures, c .before .enum-told2 .given .1)
 
 returns-3 : tie.Need-returns-3
-returns-3 c = simp (c .told-and-released2 .ensures, c .before .before .before .class-of .ensures, c .before .enum-told3 .given .1)
+returns-3 c = simp (c .told2 .ensures, c .before .before .before .class-of .ensures, c .before .before .before .before .release .ensures, c .before .enum-told3 .given .1)
 
 returns-4 : tie.Need-returns-4
-returns-4 c = simp (c .told-and-released3 .ensures, c .before .before .before .class-of .ensures, c .before .enum-told4 .given .1)
+returns-4 c = simp (c .told3 .ensures, c .before .before .before .class-of .ensures, c .before .before .before .before .release .ensures, c .before .enum-told4 .given .1)
 
 pub awaiting-dropped-spec : {M : Type 1} → statement M
 awaiting-dropped-spec =
     tie.close
     (tie.spec
+    (λ c κs. search needs)
     (λ c κs. search needs)
     (λ c. search needs)
     (λ c κs. search needs)

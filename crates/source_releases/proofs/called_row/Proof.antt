@@ -8,7 +8,7 @@ returns : tie.Need-returns
 returns c = simp (c .hard-lost .ensures, c .before .before .before .state2 .given .1, eq-eqb _ _ (c .before .if1 .taken))
 
 returns-2 : tie.Need-returns-2
-returns-2 c = simp (c .told-only .ensures, c .before .before .before .state3 .given .1, eq-eqb _ _ (c .before .if2 .taken))
+returns-2 c = simp (c .told .ensures, c .before .before .before .state3 .given .1, eq-eqb _ _ (c .before .if2 .taken))
 
 returns-3 : tie.Need-returns-3
 returns-3 c = simp (c .refused .ensures, c .before .enum-told .given .1)

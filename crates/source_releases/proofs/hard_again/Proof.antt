@@ -4,10 +4,10 @@ use Rattle.source_releases.proofs.hard_again.Statement.{statement}
 use Rattle.source_releases.proofs.hard_again.Tie as tie
 
 returns : tie.Need-returns
-returns c = simp (c .done .ensures, c .before .enum-told .given .1)
+returns c = simp (c .moved .ensures, c .before .enum-told .given .1)
 
 returns-2 : tie.Need-returns-2
-returns-2 c = simp (c .hard-ended .ensures, c .before .enum-told2 .given .1)
+returns-2 c = simp (c .told-stopping .ensures, c .before .enum-told2 .given .1)
 
 pub hard-again-spec : {M : Type 1} → statement M
 hard-again-spec =

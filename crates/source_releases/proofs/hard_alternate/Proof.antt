@@ -7,7 +7,7 @@ returns : tie.Need-returns
 returns c = simp (c .given .ensures, c .before .naming .ensures, c .before .before .before .next .given .1)
 
 returns-2 : tie.Need-returns-2
-returns-2 c = simp (c .hard-ended .ensures, c .before .enum-told .given .1)
+returns-2 c = simp (c .told-stopping .ensures, c .before .enum-told .given .1)
 
 pub hard-alternate-spec : {M : Type 1} → statement M
 hard-alternate-spec =

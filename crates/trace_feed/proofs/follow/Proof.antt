@@ -6,7 +6,7 @@ use mathlib.Core.Path.{_≡_, refl, _∙_}
 use mathlib.Core.Bool.{true}
 use borrow.Author.Needs.{needs}
 use lib.ListN.{length}
-use Rattle.source_table.specs.Fit.{fitTable}
+use Rattle.call_table.specs.Fit.{fitTable}
 use Rattle.event_record.proofs.Buffer.{rest-short}
 use Rattle.trace_run.proofs.Empty.{empty-tests-fit}
 use Rattle.trace_feed.proofs.follow.Statement.{statement}
@@ -17,24 +17,24 @@ a-chunk-more : (n n′ turns most : ℕ) → n′ ≤ n + 4096 → n + turns * 4
 a-chunk-more n n′ turns most h i l = omega arith
 
 abbrev Inv-loop : tie.InvT-loop
-Inv-loop columns name out₀ input₀ table₀ count₀ kept₀ turns₀ t12 out input table count kept turns =
+Inv-loop node columns name out₀ input₀ table₀ count₀ kept₀ turns₀ t12 out input table count kept turns =
     (length input ≡ 65536) × ((length out ≡ length out₀) ×
     ((kept ≤ 15) × ((count + turns * 4096 ≤ 1152921504606846976) × (fitTable table ≡ true))))
 
 abbrev μ-loop : tie.MeasureT-loop
-μ-loop columns name out₀ input₀ table₀ count₀ kept₀ turns₀ t12 out input table count kept turns = turns
+μ-loop node columns name out₀ input₀ table₀ count₀ kept₀ turns₀ t12 out input table count kept turns = turns
 
 loop-holds : tie.Need-loop-holds Inv-loop μ-loop
 loop-holds c = (search needs, (refl, (omega arith, (omega arith, empty-tests-fit 64 (omega arith)))))
 
 loop-again : tie.Need-loop-again Inv-loop μ-loop
-loop-again c = (
-  search needs,
-  let kept = c .before .before .keep-rest .ensures .0 in
-      let ran = c .before .before .before .before .before .before .before .before .before .before .before .before .run in
-      let turn = c .before .before .before .before .before .before .before .before .before .before .before .before
-      .before .before .before .before .before .before .before .before .before .before .before .before .before in (
-        ran .kept .1 .1 .0 ∙ turn .before .loop .inv .1 .0,
+loop-again c =
+    let kept = c .before .before .keep-rest .ensures .0 in
+    let ran = c .before .before .before .before .before .before .before .before .before .before .before .before .run in
+    let turn = c .before .before .before .before .before .before .before .before .before .before .before .before .before .before .before .before .before .before .before .before .before .before .before .before .before in (
+      search (needs, c .before .before .before .before .before .before .before .before .before .before .before .before .before .before .before .before .before .before .before .before .before .before .input .given),
+      (
+        ran .kept .1 .1 .1 .0 ∙ turn .before .loop .inv .1 .0,
         (
           rest-short _ _ _ kept,
           (
@@ -43,7 +43,7 @@ loop-again c = (
           ),
         ),
       ),
-)
+    )
 
 pub follow-spec : {M : Type 1} → statement M
 follow-spec =

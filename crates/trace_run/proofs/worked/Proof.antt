@@ -1,4 +1,4 @@
--- `worked` meets its contract. Assumes nothing.
+-- `trace_run::worked` meets its contract. Assumes nothing.
 use borrow.Author.Needs.{needs}
 use Rattle.trace_run.proofs.worked.Statement.{statement}
 use Rattle.trace_run.proofs.worked.Tie as tie

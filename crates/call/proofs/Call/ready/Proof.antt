@@ -1,11 +1,14 @@
 -- `call::Call::ready` meets its contract. Assumes nothing.
+use mathlib.Core.Path.{refl}
 use borrow.Author.Needs.{needs}
-use Rattle.call.proofs.Events.{ready-is}
+use Rattle.events.specs.declared.Event.the-variants.{Ready}
+use Rattle.source_rows.proofs.Lawful.{source}
+use Rattle.call.proofs.Events.{quiet-is}
 use Rattle.call.proofs.Call.ready.Statement.{statement}
 use Rattle.call.proofs.Call.ready.Tie as tie
 
 returns : tie.Need-returns
-returns c = rw (c .carried .ensures, c .before .ready-row .ensures, ready-is)
+returns c = rw (c .carried .ensures, c .before .ready-row .ensures) (quiet-is source (c .before .before .args .self) Ready refl)
 
 pub ready-spec : {M : Type 1} → statement M
 ready-spec =

@@ -10,13 +10,13 @@ returns-2 : tie.Need-returns-2
 returns-2 c = simp (c .refused2 .ensures, c .before .enum-told2 .given .1)
 
 returns-3 : tie.Need-returns-3
-returns-3 c = simp (c .done .ensures, c .before .enum-told3 .given .1)
+returns-3 c = simp (c .moved .ensures, c .before .enum-told3 .given .1)
 
 returns-4 : tie.Need-returns-4
 returns-4 c = simp (c .refused3 .ensures, c .before .enum-told4 .given .1)
 
 returns-5 : tie.Need-returns-5
-returns-5 c = simp (c .done2 .ensures, c .before .before .state .given .1)
+returns-5 c = simp (c .moved2 .ensures, c .before .before .state .given .1)
 
 returns-6 : tie.Need-returns-6
 returns-6 c = simp (c .refused4 .ensures, c .before .enum-told5 .given .1)

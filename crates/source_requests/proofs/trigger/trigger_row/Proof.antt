@@ -1,6 +1,6 @@
 -- `source_requests::trigger::trigger_row` meets its contract. Assumes nothing.
 use borrow.Author.Needs.{needs}
-use Rattle.source_rows.proofs.Carried.{refused-at}
+use Rattle.shared_rows.proofs.Carried.{refused-at}
 use Rattle.source_requests.proofs.trigger.trigger_row.Statement.{statement}
 use Rattle.source_requests.proofs.trigger.trigger_row.Tie as tie
 

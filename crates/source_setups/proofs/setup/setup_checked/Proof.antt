@@ -1,7 +1,8 @@
 -- `source_setups::setup::setup_checked` meets its contract. Assumes nothing.
 use mathlib.Core.Path.{sym, _∙_}
 use borrow.Author.Needs.{needs}
-use Rattle.source_rows.proofs.Carried.{asked-is, rejected-at}
+use Rattle.source_rows.proofs.Carried.{asked-is}
+use Rattle.shared_rows.proofs.Carried.{rejected-at}
 use Rattle.source_setups.proofs.setup.setup_checked.Statement.{statement}
 use Rattle.source_setups.proofs.setup.setup_checked.Tie as tie
 

@@ -1,6 +1,6 @@
 -- `source_setups::setup::setup_row` meets its contract. Assumes nothing.
 use borrow.Author.Needs.{needs}
-use Rattle.source_rows.proofs.Carried.{refused-at}
+use Rattle.shared_rows.proofs.Carried.{refused-at}
 use Rattle.source_setups.proofs.setup.setup_row.Statement.{statement}
 use Rattle.source_setups.proofs.setup.setup_row.Tie as tie
 

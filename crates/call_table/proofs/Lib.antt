@@ -1,0 +1,14 @@
+pub mod Shape
+pub mod Keys
+pub mod Search
+pub mod Decided
+pub mod Fit
+pub mod Stored
+pub mod Claims
+pub mod Given
+pub mod Kept
+pub mod All
+pub mod Source
+pub mod Destination
+pub mod Bench
+pub mod Wrong

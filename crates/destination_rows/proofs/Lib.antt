@@ -1,0 +1,4 @@
+pub mod Agree
+pub mod Lawful
+pub mod Only
+pub mod Wrong

@@ -1,0 +1,6 @@
+// Cases over a whole table, at the destination node (docs/TABLES.md).
+use events::Node;
+
+fn main() {
+    tables_feed::serve(Node::Destination);
+}

@@ -1,0 +1,30 @@
+-- `put_short` meets its contract. Assumes nothing.
+use borrow.Author.Needs.{needs}
+use Rattle.lines.proofs.Laws.{and-then}
+use Rattle.list_feed.proofs.print.put_short.Statement.{statement}
+use Rattle.list_feed.proofs.print.put_short.Tie as tie
+
+returns : tie.Need-returns
+returns c =
+    and-then _ _ _ _ _ (c .before .before .before .before .before .before .before .before .before .before .before .before .before
+    .before .before .before .before .before .before .before .before .put-record .ensures)
+    (and-then _ _ _ _ _ (c .before .before .before .before .before .before .before .before .before .before .before .before .before
+    .before .before .before .put-word .ensures)
+    (and-then _ _ _ _ _ (c .before .before .before .before .before .before .before .before .before .before .before .before .put-number
+    .ensures) (and-then _ _ _ _ _ (c .before .before .before .before .before .before .before .put-word2 .ensures)
+    (c .before .before .put-word3 .ensures))))
+
+pub put-short-spec : {M : Type 1} → statement M
+put-short-spec =
+    tie.close
+    (tie.spec
+    (λ c κs. search needs)
+    (λ c. search needs)
+    (λ c κs. search needs)
+    (λ c κs. search needs)
+    (λ c. search needs)
+    (λ c κs. search needs)
+    (λ c. search needs)
+    (λ c κs. search needs)
+    (λ c. search needs)
+    returns)

@@ -1,0 +1,23 @@
+-- `put_too_long` meets its contract. Assumes nothing.
+use borrow.Author.Needs.{needs}
+use Rattle.lines.proofs.Laws.{and-then}
+use Rattle.script_feed.proofs.print.put_too_long.Statement.{statement}
+use Rattle.script_feed.proofs.print.put_too_long.Tie as tie
+
+returns : tie.Need-returns
+returns c =
+    and-then _ _ _ _ _ (c .before .before .before .before .before .before .before .before .before .before .before .before .put-line
+    .ensures) (and-then _ _ _ _ _ (c .before .before .before .before .before .before .before .put-word .ensures)
+    (c .before .before .put-word2 .ensures))
+
+pub put-too-long-spec : {M : Type 1} → statement M
+put-too-long-spec =
+    tie.close
+    (tie.spec
+    (λ c κs. search needs)
+    (λ c. search needs)
+    (λ c κs. search needs)
+    (λ c. search needs)
+    (λ c κs. search needs)
+    (λ c. search needs)
+    returns)

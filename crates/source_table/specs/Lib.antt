@@ -1,4 +1,0 @@
-pub mod Fit
-pub mod Table
-pub mod Claims
-pub mod Bench
