@@ -179,7 +179,8 @@ module _ (half : Half) where
       (answerGiven o ≡ 0) × ((o .call ≡ c) × (o .signals ≡ places (r ∷ []))))
 
   -- 01, "Signals": Cause code #21 stands on the releases that the documents of the end say, with no Rerouting cause, and nowhere else; at
-  -- the source on the rerouting release of a connect answered no, and on that of D18's last line.
+  -- the source on the rerouting release of a connect answered no, and on that of D18's last line; at the destination on those of decisions
+  -- 68, 72 and 74.
   abbrev pub Code21Exactly : Type 0
   Code21Exactly = Always (λ c e o. withCode21 (o .signals) ≡ code21Wanted (half .demands) (standing c) e)
 

@@ -1,8 +1,8 @@
 -- The rows of the destination node (6.3), the whole table: for each event, what is done in each state; what is the same at both ends stands
 -- beside the source's page (source_rows, specs/Shared). To be held against sections 6.3.4 to 6.3.7, whose text decides every row (decision
 -- 56); 01 gives the frame, and "decision N" is a point of docs/DECISIONS.md. The states have the destination's own names; the party is the
--- called one, and the release from across the domain is the calling side's. A clause that refuses names 106, 107 or 108 (decision 60).
--- Assumes nothing.
+-- called one, and the release from across the domain is the calling side's. A clause that refuses names 106
+-- (NoMeaning), 107 (NotHeld) or, in Shared, 108 (NumbersSpent; decision 60). Assumes nothing.
 use mathlib.Core.Bool.{Bool, cond}
 use Rattle.signal.specs.declared.Answer.the-variants.{NoMeaning, NotHeld}
 use Rattle.signal.specs.declared.Crankback.{Crankback}

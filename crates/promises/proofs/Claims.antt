@@ -50,6 +50,7 @@ module _ (s : Sieve) (L : Lawful (s .half)) (S : Sifts s) where
   pub promises : claim.KeepsPromises s
   promises =
       record {
+        sifts = S;
         oneSieve = one-sieve s S;
         demandThree = demand-three;
         silentRefusals = silent-refusals (s .half) L;

@@ -10,7 +10,7 @@ use Rattle.runs.specs.Run.{Control, KeyedRequest, RefusalsAreSilent, emptyTable
 use Rattle.runs.specs.Woven.{Strand, itself, woven}
 use Rattle.events.specs.declared.Node.{Node}
 use Rattle.call.specs.Events.{Half, halfOf}
-use Rattle.promises.specs.Ends.{OneSieve, Sieve, calls, document, numbering, ours, sieveOf}
+use Rattle.promises.specs.Ends.{OneSieve, Sieve, Sifts, calls, document, numbering, ours, sieveOf}
 use Rattle.runs.specs.Demand as demand
 use Rattle.runs.specs.Exact as exact
 
@@ -55,8 +55,9 @@ TooManyTakeNone s =
     (n : ℕ) → 1024 < n → (strands : List (Strand calls)) → demand.LateInserted calls (numbering s) (ours (s .half)) n strands →
     woven calls strands ≡ itself calls strands
 
--- all of them, of our control of one end, and that its number check is the only one of which demand 3 could speak
+-- all of them, of our control of one end; and that its number check is the end's own, and the only one of which demand 3 could speak
 pub record KeepsPromises (s : Sieve) : Type 0 where
+  pub sifts : Sifts s
   pub oneSieve : OneSieve s
   pub demandThree : DemandThree s (ours (s .half))
   pub silentRefusals : SilentRefusals (ours (s .half))

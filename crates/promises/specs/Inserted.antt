@@ -116,7 +116,8 @@ module _ (s : Sieve) (words : InWords) where
   LacksInWords = (c : Call) (code : Switchover) → (s .supports c code ≡ false) ↔ words .Lacks c code
 
   -- At every point where a call that takes setups is on record, over any table: a setup with the number 0 is late, whatever its code, and
-  -- one with a code that is not supported there asks for what is not, whatever its number. One that is both is rejected for its code.
+  -- one with a code that is not supported there asks for what is not, whatever its number. One that is both is rejected
+  -- for its code (`numbering`, specs/Ends).
   abbrev pub SetupsToInsert : Type 0
   SetupsToInsert =
       (ys : Table calls) (k : ℕ) → (k ≡ 0 → ⊥) → onRecord (calls .key) k ys ≡ true → words .Takes (callByKey calls k ys) →
@@ -143,8 +144,9 @@ OnlyLateWhenHard =
     (ys : Table calls) (k : ℕ) (code : Switchover) (number : ℕ) → isHard (callByKey calls k ys .state) ≡ true →
     LateOrUnsupported calls (numbering destinationSieve) ys (setupBy k code number) → number ≤ callByKey calls k ys .remote
 
--- For one that is not late is taken as a hard one, whatever its code: it is answered 0, the next connection number is given to it and held
--- alone, and its own number is stored (6.3.5.2, 6.3.5.3; the third step of the destination's bench run).
+-- For there, to a call that takes setups and below 65,535, one that is not late is taken as a hard one, whatever its code: it is answered
+-- 0, the next connection number is given to it and held alone, and its own number is stored (6.3.5.2, 6.3.5.3; the third step of the
+-- destination's bench run).
 abbrev pub AnyCodeTakenWhenHard : Type 0
 AnyCodeTakenWhenHard =
     (c : Call) (code : Switchover) (number : ℕ) → destinationInWords .Takes c → isHard (c .state) ≡ true → c .remote < number →

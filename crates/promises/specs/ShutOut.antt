@@ -1,7 +1,7 @@
 -- Controls that do not do the work, and are shut out at both ends: 01, "What the contracts settle", names the first five, and the rest
--- break demand 3 each in a way of its own. Each is a control like ours of that end (the first four and how they differ from it are said in
--- runs, specs/ShutOut, of any end); each breaks a promise that ours keeps, over a table and a request, or at a run, that are written out
--- here and are the same at both ends. Proofs: proofs/ShutOut. Assumes nothing.
+-- break demand 3 each in a way of its own. The first two are such a control at any end, the others are ours of that end, altered (the means
+-- to alter one are in runs, specs/ShutOut); each breaks a promise that ours keeps, over a table and a request, or at a run, that are
+-- written out here and are the same at both ends. Proofs: proofs/ShutOut. Assumes nothing.
 use Prim.Native.Nat.{_+_, suc, zero, ℕ}
 use mathlib.Core.Bool.{Bool, _&&_, cond, false, true}
 use mathlib.Core.List.{List, [], _∷_, map}

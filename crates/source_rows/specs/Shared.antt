@@ -55,15 +55,15 @@ softCrankback AlternateFound room =
 softCrankback NoAlternate room = backToIdle
 
 -- ---- a setup of the neighbour
--- what a rejected setup leaves: the record as it was (01, "Setup"; 6.3.5), for each reason
+-- what a rejected setup leaves: the record as it was (01, "Setup", 6.2.7; 6.3.5), for each reason
 abbrev pub rejects : Saying → Phase → Rule
 rejects say phase = closed (Rejects say Section66) (stays phase)
 
--- another switchover than those that the end knows (01, "Setup" row 1; 6.3.5)
+-- another switchover than those that the end knows (01, "Setup" row 1, 6.2.7; 6.3.5)
 abbrev pub rejectedUnsupported : Phase → Rule
 rejectedUnsupported phase = rejects Says8 phase
 
--- a late number (01, "Setup" row 2; 6.3.5)
+-- a late number (01, "Setup" row 2, 6.2.7; 6.3.5)
 abbrev pub rejectedOld : Phase → Rule
 rejectedOld phase = rejects Says5 phase
 
@@ -115,8 +115,8 @@ passing hard CameOther = SaysAsCame
 abbrev pub bothEnded : Saying → Rule
 bothEnded say = retiring (with say) (dropping (with say) ends)
 
--- every call ends (01, "Release from the calling side", 6.2.4.2 to 6.2.4.8; 6.3.4.2 to 6.3.4.8, decision 66). The Hard states never read
--- the hard service (6.2.4.3, 6.2.4.4, decision 6; 6.3.4.3, 6.3.4.4). What Soft Triggered's release carries, an end says for itself
+-- every call ends (01, "Release from the calling side", 6.2.4.2 to 6.2.4.8; 6.3.4.2 to 6.3.4.8, decisions 65 and 66). The Hard states never
+-- read the hard service (6.2.4.3, 6.2.4.4, decision 6; 6.3.4.3, 6.3.4.4). What Soft Triggered's release carries, an end says for itself
 abbrev pub partyRow : Saying → Phase → Bool → Class → Rule
 partyRow triggered Null hard class = refuses NoMeaning Null
 partyRow triggered Idle hard class = retiring (with (passing hard class)) ends
