@@ -1,5 +1,6 @@
 //! The bench run of 01 on one call, hard on and symmetric soft: B1 to B13, B15 and B16. B14 opens a
-//! key on record, which is the table's matter: `table_run` has it, between the same steps.
+//! key on record, which is the table's matter: `table_run` has it, between the same steps. B12 to
+//! B15 have 6 on record, where 01 has 5 (02, Ask 3).
 
 use crate::call::{Call, Outcome, Services, Soft};
 use crate::vocabulary::{
@@ -56,15 +57,16 @@ pub fn symmetric_part() -> Vec<Step> {
     ]
 }
 
-/// B9 to B13: a late release is refused, and the node itself reroutes softly.
+/// B9 to B13: a late release is refused, and the node itself reroutes softly. The setup that comes
+/// meanwhile is rejected with #6, and its number stays on record (02, Ask 3).
 pub fn soft_part() -> Vec<Step> {
     let connect = Event::Connect { connection: 4, policy: Policy::Yes };
     vec![
         (called(1, None), 107, "7 1 2 1 3 0 3 5", "-"),
         (Event::Trigger, 0, "7 1 2 4 3 0 3 5", "-"),
         (Event::PathFound, 0, "7 1 2 5 3 4 4 5", "setup 4"),
-        (setup(SwitchoverCode::CLEARING, 6), 0, "7 1 2 5 3 4 4 5", "reject #6"),
-        (connect, 0, "7 1 2 1 4 0 4 5", "switch 4, release incumbent 3 #4"),
+        (setup(SwitchoverCode::CLEARING, 6), 0, "7 1 2 5 3 4 4 6", "reject #6"),
+        (connect, 0, "7 1 2 1 4 0 4 6", "switch 4, release incumbent 3 #4"),
     ]
 }
 
@@ -72,9 +74,9 @@ pub fn soft_part() -> Vec<Step> {
 pub fn hard_part() -> Vec<Step> {
     let ended = "release calling #2, release rerouting 5 #2";
     vec![
-        (Event::Trigger, 0, "7 1 2 4 4 0 4 5", "-"),
-        (Event::PathFound, 0, "7 1 2 5 4 5 5 5", "setup 5"),
-        (called(4, None), 0, "7 1 2 3 0 5 5 5", "timer start"),
+        (Event::Trigger, 0, "7 1 2 4 4 0 4 6", "-"),
+        (Event::PathFound, 0, "7 1 2 5 4 5 5 6", "setup 5"),
+        (called(4, None), 0, "7 1 2 3 0 5 5 6", "timer start"),
         (Event::TimerExpiry, 0, "0 0 0 0 0 0 0 0", ended),
     ]
 }

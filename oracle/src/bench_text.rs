@@ -1,5 +1,5 @@
 //! The bench run of 01, B1 to B16, as a technician runs it: written as a script, turned into
-//! records, traced and watched.
+//! records, traced and watched. From B12 to B15 the number is 6 (02, Ask 3).
 
 use crate::vocabulary::Node;
 use crate::{list, script, trace, watch};
@@ -39,12 +39,12 @@ line answer state incumbent rerouting number last signals
 9 107 1 3 0 5 3 -
 10 0 4 3 0 5 3 -
 11 0 5 3 4 5 4 setup 4
-12 0 5 3 4 5 4 reject #6
-13 0 1 4 0 5 4 switch 4, release incumbent 3 #4
-14 103 1 4 0 5 4 -
-15 0 4 4 0 5 4 -
-16 0 5 4 5 5 5 setup 5
-17 0 3 0 5 5 5 timer start
+12 0 5 3 4 6 4 reject #6
+13 0 1 4 0 6 4 switch 4, release incumbent 3 #4
+14 103 1 4 0 6 4 -
+15 0 4 4 0 6 4 -
+16 0 5 4 5 6 5 setup 5
+17 0 3 0 5 6 5 timer start
 18 0 0 0 0 0 0 release calling #2, release rerouting 5 #2
 ";
 

@@ -240,8 +240,15 @@ impl Call {
         }
     }
 
-    /// A rejected setup leaves the record as it was, with answer 0 (01, "Setup").
+    /// A setup rejected with #8 or #5 leaves the record as it was, with answer 0 (01, "Setup"; 02,
+    /// Ask 3).
     pub fn rejected(self, cause: ReroutingCause) -> Outcome {
         self.kept(one(Signal::reject(cause)))
+    }
+
+    /// A setup rejected with #6, with answer 0: its number is stored, at 65,535 too, and nothing
+    /// else of the record moves (02, Ask 3, which amends 01, "Setup"; 6.2.7; decision 79).
+    pub fn rejected_in_progress(self, remote: u32) -> Outcome {
+        Self { remote, ..self }.kept(one(Signal::reject(ReroutingCause::ALREADY_IN_PROGRESS)))
     }
 }

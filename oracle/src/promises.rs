@@ -1,11 +1,11 @@
 //! What must hold in every cell of both ends, said without the rows: refusals change nothing,
-//! signals keep their order, the timer follows the Hard states, and every connection is accounted
-//! for.
+//! signals keep their order, the timer follows the Hard states, every connection is accounted for,
+//! and a setup's number is stored where the setup is accepted or rejected with #6.
 
 use crate::call::{Call, Outcome, Soft, State};
 use crate::cells;
 use crate::vocabulary::{
-    Answer, Event, Node, ReroutingCause, Signal, SignalKind, SwitchoverCode, SILENT,
+    Answer, Event, Node, ReroutingCause, SentCause, Signal, SignalKind, SwitchoverCode, SILENT,
 };
 
 const NODES: [Node; 2] = [Node::Source, Node::Destination];
@@ -261,7 +261,7 @@ fn connects_name_the_rerouting_connection() {
     });
 }
 
-/// Only an accepted setup stores a number, and a greater one.
+/// Only a setup stores a number, its own and a greater one.
 #[test]
 fn remote_number_only_grows() {
     each_cell(|cell| {
@@ -273,7 +273,43 @@ fn remote_number_only_grows() {
                 _ => None,
             };
             assert_eq!(number, Some(after.call.remote), "{cell:?}");
-            assert_eq!(after.call.state.rerouting(), before.last.checked_add(1), "{cell:?}");
+        }
+    });
+}
+
+/// The cause of the one reject of a setup that is rejected.
+fn rejected_with(outcome: &Outcome) -> Option<ReroutingCause> {
+    match sent(outcome, SignalKind::Reject).as_slice() {
+        [] => None,
+        [Signal { rerouting_cause: SentCause::Number(cause), .. }] => Some(*cause),
+        other => panic!("not one reject with a number: {other:?}"),
+    }
+}
+
+/// A setup stores its number where it is accepted, on a new connection, and where it is rejected
+/// with #6: then the number alone moves. Rejected with #8 or #5 it leaves the whole record (02, Ask
+/// 3; 6.2.7; decision 79), and so it does where it is refused (`refusals_change_nothing`).
+#[test]
+fn setups_store_their_number_accepted_or_rejected_with_6() {
+    each_cell(|cell| {
+        let Cell { before, event, after, .. } = cell;
+        let Event::Setup { number, .. } = event else { return };
+        if after.answer != Answer::Done {
+            return;
+        }
+        match rejected_with(&after) {
+            None => {
+                assert_eq!(after.call.remote, number, "{cell:?}");
+                assert_eq!(after.call.state.rerouting(), before.last.checked_add(1), "{cell:?}");
+            }
+            Some(ReroutingCause::ALREADY_IN_PROGRESS) => {
+                assert_eq!(after.call, Call { remote: number, ..before }, "{cell:?}");
+            }
+            Some(ReroutingCause::UNSUPPORTED_SWITCHOVER)
+            | Some(ReroutingCause::OLD_INCARNATION_NUMBER) => {
+                assert_eq!(after.call, before, "{cell:?}");
+            }
+            Some(other) => panic!("{other:?}: {cell:?}"),
         }
     });
 }
@@ -299,7 +335,19 @@ fn knows_switchover(node: Node, call: Call, switchover: SwitchoverCode) -> bool 
     }
 }
 
-/// A late setup changes nothing, and is told so with #8 or #5 and nothing else (decision 77).
+/// What is done with a late setup: it changes nothing, and is told so with #8 or #5 and nothing
+/// else (decision 77).
+fn rejected_late(node: Node, call: Call, switchover: SwitchoverCode) -> Outcome {
+    let cause = if knows_switchover(node, call, switchover) {
+        ReroutingCause::OLD_INCARNATION_NUMBER
+    } else {
+        ReroutingCause::UNSUPPORTED_SWITCHOVER
+    };
+    let signals = [Signal::reject(cause), Signal::NONE, Signal::NONE, Signal::NONE];
+    Outcome { answer: Answer::Done, call, signals }
+}
+
+/// A late setup is rejected, and changes nothing (decision 77).
 #[test]
 fn late_setups_change_nothing() {
     each_cell(|cell| {
@@ -308,14 +356,25 @@ fn late_setups_change_nothing() {
         if number > before.remote || before.state == State::Null || !takes_setups(node, before) {
             return;
         }
-        let cause = if knows_switchover(node, before, switchover) {
-            ReroutingCause::OLD_INCARNATION_NUMBER
-        } else {
-            ReroutingCause::UNSUPPORTED_SWITCHOVER
-        };
-        let rejected = [Signal::reject(cause), Signal::NONE, Signal::NONE, Signal::NONE];
-        let told = (after.answer, after.call, after.signals);
-        assert_eq!(told, (Answer::Done, before, rejected), "{cell:?}");
+        assert_eq!(after, rejected_late(node, before, switchover), "{cell:?}");
+    });
+}
+
+/// Once its number is stored, the same setup is late in whatever state the call is then (02, Ask 3;
+/// decision 79).
+#[test]
+fn setups_are_late_once_their_number_is_stored() {
+    each_cell(|cell| {
+        let Cell { node, before, event, after } = cell;
+        let Event::Setup { switchover, .. } = event else { return };
+        if after.call.remote == before.remote {
+            return;
+        }
+        for state in (1..=7).filter_map(|number| State::of_number(number, 3, 5)) {
+            let later = Call { state, ..after.call };
+            let again = later.after(node, event);
+            assert_eq!(again, rejected_late(node, later, switchover), "{cell:?}");
+        }
     });
 }
 

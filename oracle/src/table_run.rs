@@ -41,7 +41,8 @@ fn run(table: &mut [Call], place: usize, steps: &[Step]) {
 
 fn run_b1_to_b16(table: &mut [Call], place: usize) {
     let b1 = expected(0, "7 1 2 1 1 0 1 0", "-");
-    let b14 = expected(103, "7 1 2 1 4 0 4 5", "-");
+    // The number of B12, which was rejected with #6 (02, Ask 3).
+    let b14 = expected(103, "7 1 2 1 4 0 4 6", "-");
     assert_eq!(ask(table, place, OPENING), b1);
     run(table, place, &symmetric_part());
     run(table, place, &soft_part());

@@ -8,22 +8,23 @@ use mathlib.Core.Logic.{_↔_, _⊎_, inl, inr}
 use mathlib.Core.Path.{_∙_, _≡_, ap, refl, subst, sym}
 use lib.Dec.{eqb, ltb}
 use lib.ListN.{length}
-use borrow.Author.Tests.{eqb-false, eqb-true, le-ltb, lt-ltb, ltb-false, ltb-true, ne-eqb}
+use borrow.Author.Tests.{eq-eqb, eqb-false, eqb-true, le-ltb, lt-ltb, ltb-false, ltb-true, ne-eqb}
 use Rattle.signal.proofs.Claims.{services-exactly}
 use Rattle.signal.proofs.Counting.{count-append, one-most, one-same}
-use Rattle.signal.specs.Causes.{cause}
+use Rattle.signal.specs.Causes.{inProgress}
 use Rattle.signal.specs.Counting.{count, endedSent, named, ofKind}
 use Rattle.signal.specs.Numbers.{answerNumber}
-use Rattle.signal.specs.declared.Kind.the-variants.{SetupRequest}
-use Rattle.signal.specs.declared.ReroutingCause.{ReroutingCause}
+use Rattle.signal.specs.Signals.{rejection}
+use Rattle.signal.specs.declared.Kind.the-variants.{Rejection, SetupRequest}
 use Rattle.signal.specs.declared.Signal.{Signal}
-use Rattle.events.specs.Events.{numberBrought, reported}
+use Rattle.events.specs.Events.{numberBrought, reported, setupNumber}
 use Rattle.events.specs.declared.Event.{Event}
-use Rattle.events.specs.declared.Event.the-variants.{Connect, Expiry, FromDomain, FromParty, NoPath, PathFound, Ready, Setup, Trigger}
+use Rattle.events.specs.declared.Event.the-variants.{Setup}
 use Rattle.rows.proofs.Same.{not-so}
 use Rattle.rows.specs.Cases.{Standing, hasRoom}
-use Rattle.rows.specs.Checks.{AllAre, asksNumber, firstOf, isNone, namesNotHeld, numbersSpent, storedWanted}
-use Rattle.rows.specs.Meaning.{Kept, Left, Obeys, givenBy, storedBy}
+use Rattle.rows.specs.Checks.{AllAre, asksNumber, firstOf, isStoredRejected, namesNotHeld, numberStored, numbersSpent, rejectionWanted}
+use Rattle.rows.specs.Checks.{storedWanted, unrejected}
+use Rattle.rows.specs.Meaning.{Kept, Left, Obeys, acceptedBy, givenBy, storedBy}
 use Rattle.rows.specs.Rules.{isDone}
 use Rattle.rows.specs.States.{heldIn, isNull}
 use Rattle.rows.specs.declared.Effect.{Effect}
@@ -36,6 +37,7 @@ use Rattle.call.specs.Events.{Half, handledAt}
 use Rattle.call.specs.Record.{callDone, emptied, lastAfter, lastGiven, movedTo, standing}
 use Rattle.call.specs.declared.Call.{Call}
 use Rattle.call.specs.declared.Outcome.{Outcome}
+use Rattle.call.proofs.Setups.{Stores, accepted-stores, brought, by-event, in-progress-is, in-progress-stores, rejected-for, stored-by}
 use Rattle.call.specs.Claims as claim
 
 -- ---- openings, and what is returned
@@ -110,13 +112,12 @@ null-is (SoftInitiated i r) p = absurd (false≢true p)
 null-is (Awaiting i r) p = absurd (false≢true p)
 
 -- a number that is stored is greater than the one on record
-stored-above : (remote number : ℕ) (l : List ReroutingCause) (meaningless room : Bool) → (l ≡ [] → remote < number) →
-    let stored = claim.numberElse remote (cond (not meaningless && (isNone l && room)) (number ∷ []) []) in
+stored-above : (remote number : ℕ) (meaningless stores : Bool) → (stores ≡ true → remote < number) →
+    let stored = claim.numberElse remote (cond (not meaningless && stores) (number ∷ []) []) in
     (stored ≡ remote) ⊎ (remote < stored)
-stored-above remote number l true room newer = inl refl
-stored-above remote number [] false true newer = inr (newer refl)
-stored-above remote number [] false false newer = inl refl
-stored-above remote number (k ∷ more) false room newer = inl refl
+stored-above remote number true stores newer = inl refl
+stored-above remote number false true newer = inr (newer refl)
+stored-above remote number false false newer = inl refl
 
 module _ (half : Half) (L : claim.Lawful half) where
   -- ---- what one event leaves of the record, by its effect
@@ -254,11 +255,22 @@ module _ (half : Half) (L : claim.Lawful half) where
             let none′ : length (givenBy x f) ≡ 0 = ap (λ b. length (cond b ((c .last + 1) ∷ []) [])) g in
             none-named _ (ofKind SetupRequest (f .signals)) (omega (arith, law .given))
 
-    left-alone : (r : Signal) → Left x f r → o .call ≡ c
-    left-alone r l =
-        by-end (λ d. d ≡ c) (λ refused. refl)
+    -- a rejection leaves all but the remote number
+    abbrev storing : List ℕ → Call
+    storing numbers = movedTo c (c .state) (c .last) (claim.numberElse (c .remote) numbers)
+
+    left-but-number : (r : Signal) → Left x f r → o .call ≡ storing (storedWanted (half .demands) x e)
+    left-but-number r l =
+        by-end (λ d. d ≡ storing (storedBy e f))
+        (λ refused. absurd (false≢true (sym refused ∙ eq-eqb (answerNumber (f .answer)) 0 (l .done))))
         (λ d p. absurd (true≢false (sym p ∙ (ap isNull (l .state) ∙ l .live))))
-        (λ d p. λ i. movedTo c (l .state i) (lastAfter (l .gives i) (c .last)) (cond (l .stores i) (numberBrought e) (c .remote)))
+        (λ d p. by (f .stores))
+        ∙ ap storing (asked .stored)
+      where
+        by : (b : Bool) →
+            movedTo c (f .state) (lastAfter (f .gives) (c .last)) (cond b (numberBrought e) (c .remote)) ≡ storing (cond b (numberBrought e ∷ []) [])
+        by true = λ i. movedTo c (l .state i) (lastAfter (l .gives i) (c .last)) (numberBrought e)
+        by false = λ i. movedTo c (l .state i) (lastAfter (l .gives i) (c .last)) (c .remote)
 
     remote-live : isNull (o .call .state) ≡ false → o .call .remote ≡ claim.numberElse (c .remote) (storedWanted (half .demands) x e)
     remote-live live =
@@ -274,17 +286,72 @@ module _ (half : Half) (L : claim.Lawful half) where
         by false = refl
 
     stored-greater : (e : Event) → let stored = claim.numberElse (c .remote) (storedWanted (half .demands) x e) in (stored ≡ c .remote) ⊎ (c .remote < stored)
-    stored-greater Trigger = inl refl
-    stored-greater PathFound = inl refl
-    stored-greater NoPath = inl refl
-    stored-greater (Connect n agreed) = inl refl
-    stored-greater (Setup code number) =
-        stored-above (c .remote) number (half .demands .rejected x code number) (half .demands .meaningless x (Setup code number)) (hasRoom (c .last))
-        (L .newer x code number)
-    stored-greater (FromParty cause) = inl refl
-    stored-greater (FromDomain n cause crankback) = inl refl
-    stored-greater Ready = inl refl
-    stored-greater Expiry = inl refl
+    stored-greater =
+        by-event (half .demands) x
+        (λ e. let stored = claim.numberElse (c .remote) (storedWanted (half .demands) x e) in (stored ≡ c .remote) ⊎ (c .remote < stored))
+        (λ code number.
+        stored-above (c .remote) number (half .demands .meaningless x (Setup code number)) (numberStored (half .demands .rejected x code number) (hasRoom (c .last)))
+        (L .newer x code number (hasRoom (c .last))))
+        (λ e none sent stored. inl (ap (claim.numberElse (c .remote)) stored))
+
+    -- the remote number grows only where the setup's is stored
+    grown-stored : c .remote < o .call .remote → (f .stores ≡ true) × ((isDone (f .answer) ≡ true) × (o .call .remote ≡ numberBrought e))
+    grown-stored =
+        by-end (λ d. c .remote < d .remote → (f .stores ≡ true) × ((isDone (f .answer) ≡ true) × (d .remote ≡ numberBrought e)))
+        (λ r grown. absurd (omega arith))
+        (λ d p grown. absurd (omega arith))
+        (λ d p. by (f .stores) refl d)
+      where
+        by : (b : Bool) → f .stores ≡ b → isDone (f .answer) ≡ true → c .remote < cond b (numberBrought e) (c .remote) →
+            (f .stores ≡ true) × ((isDone (f .answer) ≡ true) × (cond b (numberBrought e) (c .remote) ≡ numberBrought e))
+        by true s d grown = (s, (d, refl))
+        by false s d grown = absurd (omega arith)
+
+    -- so it grows by a setup that is heard, and to its number
+    grown-by : c .remote < o .call .remote →
+        ((length (setupNumber e) ≡ 1) × claim.Heard (answerNumber (o .answer)) (o .signals)) × (setupNumber e ≡ o .call .remote ∷ [])
+    grown-by grown = (
+      (ap length (why .0), (eqb-true (answerNumber (f .answer)) 0 (is .1 .0), by (why .1))),
+      why .0 ∙ ap (λ n. n ∷ []) (sym (is .1 .1)),
+    )
+      where
+        is : (f .stores ≡ true) × ((isDone (f .answer) ≡ true) × (o .call .remote ≡ numberBrought e))
+        is = grown-stored grown
+
+        why : (setupNumber e ≡ numberBrought e ∷ [])
+            × ((rejectionWanted (half .demands) x e ≡ []) ⊎ (rejectionWanted (half .demands) x e ≡ rejection inProgress ∷ []))
+        why = stored-by (half .demands) x (L .once x) e (sym (ap (λ b. cond b (numberBrought e ∷ []) []) (is .0)) ∙ asked .stored)
+
+        by : (rejectionWanted (half .demands) x e ≡ []) ⊎ (rejectionWanted (half .demands) x e ≡ rejection inProgress ∷ []) →
+            (ofKind Rejection (o .signals) ≡ []) ⊎ (ofKind Rejection (o .signals) ≡ rejection inProgress ∷ [])
+        by (inl none) = inl (asked .rejected ∙ none)
+        by (inr six) = inr (asked .rejected ∙ six)
+
+    -- and where it is stored, to a call that goes on, it grows
+    grows-live : isNull (f .state) ≡ false → Stores (half .demands) x e → c .remote < o .call .remote
+    grows-live live s =
+        let now : o .call .remote ≡ numberBrought e = remote-live (ap isNull state-same ∙ live) ∙ ap (claim.numberElse (c .remote)) (s .0) in
+        omega (arith, s .1, now)
+
+    heard-grows : length (setupNumber e) ≡ 1 → claim.Heard (answerNumber (o .answer)) (o .signals) → c .remote < o .call .remote
+    heard-grows one′ (done, inl none) = grows-live (law .lives (by (f .gives) long)) stores
+      where
+        stores : Stores (half .demands) x e
+        stores = accepted-stores (half .demands) x (L .newer x) e one′ (sym done ∙ asked .answered) (sym none ∙ asked .rejected)
+
+        taken : length (acceptedBy e f) ≡ 1
+        taken = (λ i. length (unrejected (none i) (storedBy e f))) ∙ ap length (asked .stored ∙ stores .0)
+
+        long : 1 ≤ length (givenBy x f)
+        long = omega (arith, law .given, taken)
+
+        by : (b : Bool) → 1 ≤ length (cond b ((c .last + 1) ∷ []) []) → b ≡ true
+        by true h = refl
+        by false h = absurd (omega arith)
+    heard-grows one′ (done, inr six) =
+        let wanted : rejectionWanted (half .demands) x e ≡ rejection inProgress ∷ [] = sym (asked .rejected) ∙ six in
+        let l = asked .rejects (rejection inProgress) wanted in
+        grows-live (ap isNull (l .state) ∙ l .live) (in-progress-stores (half .demands) x (L .newer x) e wanted)
 
   -- ---- the claims, in the order of specs/Claims
 
@@ -339,9 +406,19 @@ module _ (half : Half) (L : claim.Lawful half) where
   rejected-by-first-row c e o r = rw r (asked c e .rejected)
 
   pub rejected-setup-leaves-record : claim.RejectedSetupLeavesRecord half
-  rejected-setup-leaves-record c e o r s wanted =
+  rejected-setup-leaves-record c e o r s wanted other =
       let l = asked c e .rejects s wanted in
-      rw r (l .done, (left-alone c e s l, l .signals))
+      let k = rejected-for (half .demands) (x c e) e s wanted in
+      let kept : cond (isStoredRejected (k .0)) (numberBrought e ∷ []) [] ≡ [] =
+      ap (λ b. cond b (numberBrought e ∷ []) []) (ne-eqb (k .0 .number) 6 (λ six. other (k .1 .0 ∙ in-progress-is (k .0) six))) in
+      rw r (l .done, (left-but-number c e s l ∙ ap (storing c e) (k .1 .1 ∙ kept), l .signals))
+
+  pub rejected-in-progress-stores : claim.RejectedInProgressStores half
+  rejected-in-progress-stores c e o r number numbered wanted =
+      let l = asked c e .rejects (rejection inProgress) wanted in
+      let stored = in-progress-stores (half .demands) (x c e) (L .newer (x c e)) e wanted .0 in
+      let own = ap (λ n. n ∷ []) (brought (half .demands) (x c e) e number numbered) in
+      rw r (l .done, (left-but-number c e (rejection inProgress) l ∙ ap (storing c e) (stored ∙ own), l .signals))
 
   pub code-21-exactly : claim.Code21Exactly half
   code-21-exactly c e o r = rw r (asked c e .code21)
@@ -360,15 +437,19 @@ module _ (half : Half) (L : claim.Lawful half) where
       (λ d p live. absurd (true≢false live))
       (λ d p live. (refl, (refl, refl))))
 
-  pub remote-by-accepted-setup : claim.RemoteByAcceptedSetup half
-  remote-by-accepted-setup c e o r = rw r (remote-live c e)
+  pub remote-by-stored-number : claim.RemoteByStoredNumber half
+  remote-by-stored-number c e o r = rw r (remote-live c e)
 
   pub remote-grows : claim.RemoteGrows half
-  remote-grows c e o r live = rw (remote-by-accepted-setup c e o r live) (stored-greater c e e)
+  remote-grows c e o r live = rw (remote-by-stored-number c e o r live) (stored-greater c e e)
+
+  pub remote-grows-exactly : claim.RemoteGrowsExactly half
+  remote-grows-exactly c e o r =
+      rw r ((λ grown. grown-by c e grown .0, λ heard. heard-grows c e (heard .0) (heard .1)), λ grown. grown-by c e grown .1)
 
   pub last-by-one : claim.LastByOne half
   last-by-one c e o r = rw r (λ live.
-      let made : claim.setupsMade half c e (handledAt half c e) ≡ length (givenBy (x c e) (f c e)) = rw (← (asked c e .stored)) (law c e .given) in
+      let made : claim.setupsMade half c e (handledAt half c e) ≡ length (givenBy (x c e) (f c e)) = rw (← (asked c e .stored), ← (asked c e .rejected)) (law c e .given) in
       rw made (last-live c e live, one-long (f c e .gives) (c .last + 1)))
 
   pub balances : claim.Balances half
@@ -419,11 +500,13 @@ module _ (half : Half) (L : claim.Lawful half) where
         causesAsReceived = causes-as-received;
         rejectedByFirstRow = rejected-by-first-row;
         rejectedSetupLeavesRecord = rejected-setup-leaves-record;
+        rejectedInProgressStores = rejected-in-progress-stores;
         code21Exactly = code-21-exactly;
         endedIsEmptied = ended-is-emptied;
         keyAndServicesStay = key-and-services-stay;
-        remoteByAcceptedSetup = remote-by-accepted-setup;
+        remoteByStoredNumber = remote-by-stored-number;
         remoteGrows = remote-grows;
+        remoteGrowsExactly = remote-grows-exactly;
         lastByOne = last-by-one;
         balances = balances;
         heldOrEndedOnce = held-or-ended-once;

@@ -1,3 +1,4 @@
+pub mod Setups
 pub mod Claims
 pub mod Events
 pub mod Source

@@ -160,10 +160,17 @@ module _ {M : Type 1} (𝓤 : URA M) (H : Heap 𝓤) (A : Atoms 𝓤) (memory : 
   setup-measured-against-0 r w =
       fact-mono 𝓤 _ _ (λ h. let z : _≡_ {A = ℕ} _ 6 = sym (ap (λ (r : Outcome). stateNumber (r .call .state)) h) ∙ w in omega arith)
 
-  -- a rejected setup leaves the record as it was, its number too (01, "Faults seen on shelves"; B5)
+  -- a setup rejected for its code leaves the record as it was, its number too (01, "Faults seen on shelves"; B5)
   pub rejected-setup-is-stored : (r : Outcome) → r .call .remote ≡ 9 → setup-shuts-out (standing (Idle 3)) (record { code = 0 }) 9 r
   rejected-setup-is-stored r w =
       fact-mono 𝓤 _ _ (λ h. let z : _≡_ {A = ℕ} _ 9 = sym (ap (λ (r : Outcome). r .call .remote) h) ∙ w in omega arith)
+
+  -- one rejected for work in progress stores its number all the same (02, Ask 3; B12)
+  pub setup-in-progress-is-forgotten :
+      (r : Outcome) → r .call .remote ≡ 3 →
+      setup-shuts-out (standing (SoftProceeding 3 5)) (record { code = 1 }) 9 r
+  setup-in-progress-is-forgotten r w =
+      fact-mono 𝓤 _ _ (λ h. let z : _≡_ {A = ℕ} _ 3 = sym (ap (λ (r : Outcome). r .call .remote) h) ∙ w in omega arith)
 
   -- ready: of a call, what comes of "ready"
   abbrev ready-shuts-out : Call → Outcome → Type 1

@@ -5,27 +5,28 @@
 -- Proofs, once for any half that keeps the laws: proofs/Claims.antt; for the ends: proofs/Source.antt, proofs/Destination.antt. Assumes
 -- nothing.
 use Prim.Native.Nat.{_+_, _<_, _≤_, ℕ}
-use mathlib.Core.Bool.{cond, false, not, true}
+use mathlib.Core.Bool.{Bool, cond, false, not, true}
 use mathlib.Core.List.{List, [], _++_, _∷_}
 use mathlib.Core.Logic.{_↔_, _⊎_}
 use mathlib.Core.Path.{_≡_}
 use lib.Dec.{ltb}
 use lib.ListN.{length}
+use Rattle.signal.specs.Causes.{inProgress}
 use Rattle.signal.specs.Claims.{TakesServices}
 use Rattle.signal.specs.Counting.{Honest, count, endedSent, inOrder, named, ofKind, withCode21}
 use Rattle.signal.specs.Numbers.{answerNumber}
-use Rattle.signal.specs.Signals.{places}
+use Rattle.signal.specs.Signals.{places, rejection}
 use Rattle.signal.specs.declared.Kind.the-variants.{ConnectRequest, IncumbentRelease, NoSignal, Rejection, ReroutingRelease, SetupRequest}
 use Rattle.signal.specs.declared.Kind.the-variants.{Switch, TimerStart, TimerStop}
 use Rattle.signal.specs.declared.Signal.{Signal}
 use Rattle.signal.specs.declared.Switchover.{Switchover}
 use Rattle.signal.specs.declared.Wanted.{Wanted}
-use Rattle.events.specs.Events.{isExpiry, receivedIn, reported}
+use Rattle.events.specs.Events.{isExpiry, receivedIn, reported, setupNumber}
 use Rattle.events.specs.declared.Event.{Event}
 use Rattle.events.specs.declared.Node.{Node}
 use Rattle.rows.specs.Cases.{Standing}
-use Rattle.rows.specs.Checks.{AllAre, AllIncumbent, Nones, asksNumber, code21Wanted, namesNotHeld, partyWanted, rejectionWanted}
-use Rattle.rows.specs.Checks.{startsWanted, stopsWanted, storedWanted}
+use Rattle.rows.specs.Checks.{AllAre, AllIncumbent, Nones, acceptedWanted, asksNumber, code21Wanted, namesNotHeld, numberStored}
+use Rattle.rows.specs.Checks.{partyWanted, rejectionWanted, startsWanted, stopsWanted, storedWanted}
 use Rattle.rows.specs.Effects.{partyKind}
 use Rattle.rows.specs.Meaning.{Kept, Obeys}
 use Rattle.rows.specs.States.{heldIn, incumbentOf, isHard, isNull, reroutingOf}
@@ -35,15 +36,26 @@ use Rattle.call.specs.Record.{emptied, openedFor, standing}
 use Rattle.call.specs.declared.Call.{Call}
 use Rattle.call.specs.declared.Outcome.{Outcome}
 
--- what the laws give of a half: what every event keeps, what the documents of its end ask for, and that a setup which is not rejected
--- brings a number above the one on record
+-- what the laws give of a half: what every event keeps, what the documents of its end ask for, that a setup is rejected with one cause at
+-- most, and that one which stores its number brings a number above the one on record
 pub record Lawful (half : Half) : Type 0 where
   pub kept : (x : Standing) (e : Event) → Kept (half .demands .node) x e (half .does x e)
   pub obeyed : (x : Standing) (e : Event) → Obeys (half .demands) x e (half .does x e)
-  pub newer : (x : Standing) (code : Switchover) (number : ℕ) → half .demands .rejected x code number ≡ [] → x .remote < number
+  pub once : (x : Standing) (code : Switchover) (number : ℕ) → length (half .demands .rejected x code number) ≤ 1
+  pub newer : (x : Standing) (code : Switchover) (number : ℕ) (room : Bool) →
+      numberStored (half .demands .rejected x code number) room ≡ true → x .remote < number
 
 abbrev pub answerGiven : Outcome → ℕ
 answerGiven o = answerNumber (o .answer)
+
+-- A setup is heard, as its answer and what is sent tell: it is answered 0, and nothing is rejected, so that it is accepted; or it is
+-- rejected with #6, a rerouting operation already in progress.
+abbrev pub Heard : ℕ → List Signal → Type 0
+Heard answer sent = (answer ≡ 0) × ((ofKind Rejection sent ≡ []) ⊎ (ofKind Rejection sent ≡ rejection inProgress ∷ []))
+
+-- A rejection, as a setup is told of it: it is answered 0, that one signal alone is sent, and this is the record that is left.
+abbrev pub RejectedLeaving : Call → Outcome → Signal → Type 0
+RejectedLeaving left o r = (answerGiven o ≡ 0) × ((o .call ≡ left) × (o .signals ≡ places (r ∷ [])))
 
 -- 01, "The table and its records": an opening gives number 1 to the incumbent, in Rerouting Idle, with remote number 0, and sends nothing.
 abbrev pub OpensWithOne : Type 0
@@ -170,13 +182,23 @@ module _ (half : Half) where
   abbrev pub RejectedByFirstRow : Type 0
   RejectedByFirstRow = Always (λ c e o. ofKind Rejection (o .signals) ≡ rejectionWanted (half .demands) (standing c) e)
 
-  -- 01, "Setup" and "Numbers of refusal": a rejected setup is answered 0, sends that one rejection alone, and leaves the record as it was.
+  -- 01, "Setup" and "Numbers of refusal": a setup rejected with #8 or #5, or with whatever else but #6, is answered 0, sends that one
+  -- rejection alone, and leaves the whole record as it was.
   abbrev pub RejectedSetupLeavesRecord : Type 0
   RejectedSetupLeavesRecord =
       Always
       (λ c e o.
-      (r : Signal) → rejectionWanted (half .demands) (standing c) e ≡ r ∷ [] →
-      (answerGiven o ≡ 0) × ((o .call ≡ c) × (o .signals ≡ places (r ∷ []))))
+      (r : Signal) → rejectionWanted (half .demands) (standing c) e ≡ r ∷ [] → (r ≡ rejection inProgress → ⊥) → RejectedLeaving c o r)
+
+  -- 02, Ask 3, in place of 01's sentence for #6; 6.2.7: one rejected with #6 is answered 0, sends that one rejection alone, and leaves all
+  -- of the record but the remote number, which is the setup's; the last number is not touched.
+  abbrev pub RejectedInProgressStores : Type 0
+  RejectedInProgressStores =
+      Always
+      (λ c e o.
+      (number : ℕ) → setupNumber e ≡ number ∷ [] → rejectionWanted (half .demands) (standing c) e ≡ rejection inProgress ∷ [] →
+      RejectedLeaving (record { key = c .key; hard = c .hard; soft = c .soft; state = c .state; last = c .last; remote = number }) o
+      (rejection inProgress))
 
   -- 01, "Signals": Cause code #21 stands on the releases that the documents of the end say, with no Rerouting cause, and nowhere else; at
   -- the source on the rerouting release of a connect answered no, and on that of D18's last line; at the destination on those of decisions
@@ -194,22 +216,32 @@ module _ (half : Half) where
       Always
       (λ c e o. isNull (o .call .state) ≡ false → (o .call .key ≡ c .key) × ((o .call .hard ≡ c .hard) × (o .call .soft ≡ c .soft)))
 
-  -- 01, "Setup": while the call lives, the remote number changes only by an accepted setup, and to that setup's number.
-  abbrev pub RemoteByAcceptedSetup : Type 0
-  RemoteByAcceptedSetup =
+  -- 01, "Setup", and 02, Ask 3: while the call lives, the remote number changes only by a setup that is accepted or rejected with #6, and
+  -- to its number (`storedWanted`; rows, specs/Checks).
+  abbrev pub RemoteByStoredNumber : Type 0
+  RemoteByStoredNumber =
       Always
       (λ c e o.
       isNull (o .call .state) ≡ false → o .call .remote ≡ numberElse (c .remote) (storedWanted (half .demands) (standing c) e))
 
-  -- 01, "Setup" row 2 and Demand 3: while the call lives, the remote number never falls, and an accepted setup raises it.
+  -- 01, "Setup" row 2 and Demand 3: while the call lives, the remote number never falls.
   abbrev pub RemoteGrows : Type 0
   RemoteGrows =
       Always
       (λ c e o. isNull (o .call .state) ≡ false → (o .call .remote ≡ c .remote) ⊎ (c .remote < o .call .remote))
 
+  -- 01, "Setup", and 02, Ask 3: it grows exactly by a setup that is heard, which is accepted or rejected with #6; and to the setup's
+  -- number.
+  abbrev pub RemoteGrowsExactly : Type 0
+  RemoteGrowsExactly =
+      Always
+      (λ c e o.
+      ((c .remote < o .call .remote) ↔ ((length (setupNumber e) ≡ 1) × Heard (answerGiven o) (o .signals)))
+      × (c .remote < o .call .remote → setupNumber e ≡ o .call .remote ∷ []))
+
   -- how many setups an event sends and accepts
   abbrev pub setupsMade : Call → Event → Outcome → ℕ
-  setupsMade c e o = length (ofKind SetupRequest (o .signals)) + length (storedWanted (half .demands) (standing c) e)
+  setupsMade c e o = length (ofKind SetupRequest (o .signals)) + length (acceptedWanted (half .demands) (standing c) e)
 
   -- 01, "The table and its records": while the call lives, the last number stays or grows by one, and grows exactly when a setup is sent or
   -- accepted.
@@ -264,11 +296,13 @@ pub record EventClaims (half : Half) : Type 0 where
   pub causesAsReceived : CausesAsReceived half
   pub rejectedByFirstRow : RejectedByFirstRow half
   pub rejectedSetupLeavesRecord : RejectedSetupLeavesRecord half
+  pub rejectedInProgressStores : RejectedInProgressStores half
   pub code21Exactly : Code21Exactly half
   pub endedIsEmptied : EndedIsEmptied half
   pub keyAndServicesStay : KeyAndServicesStay half
-  pub remoteByAcceptedSetup : RemoteByAcceptedSetup half
+  pub remoteByStoredNumber : RemoteByStoredNumber half
   pub remoteGrows : RemoteGrows half
+  pub remoteGrowsExactly : RemoteGrowsExactly half
   pub lastByOne : LastByOne half
   pub balances : Balances half
   pub heldOrEndedOnce : HeldOrEndedOnce half
@@ -287,6 +321,16 @@ TwoAtMost = Always sourceHalf (λ c e o. 2 ≤ length (ofKind NoSignal (o .signa
 -- Decision 17: at the source a connect names the rerouting connection as held after, too.
 abbrev pub ConnectStaysRerouting : Type 0
 ConnectStaysRerouting = Always sourceHalf (λ c e o. AllAre (reroutingOf (o .call .state)) (named (ofKind ConnectRequest (o .signals))))
+
+-- Decisions 71 and 79: at the destination no setup is rejected with #6,
+abbrev pub NoneRejectedWith6 : Type 0
+NoneRejectedWith6 = Always destinationHalf (λ c e o. ofKind Rejection (o .signals) ≡ rejection inProgress ∷ [] → ⊥)
+
+-- so that every rejected one leaves the whole record there (6.3.5).
+abbrev pub EveryRejectedLeavesRecord : Type 0
+EveryRejectedLeavesRecord =
+    Always destinationHalf
+    (λ c e o. (r : Signal) → rejectionWanted (destinationHalf .demands) (standing c) e ≡ r ∷ [] → RejectedLeaving c o r)
 
 -- Decision 63: at the destination no event fills more than three.
 abbrev pub ThreeAtMost : Type 0

@@ -1,4 +1,4 @@
--- The bench run of 01, B1 to B14, and that of the destination, by computation, at rows of 1, 64 and 1,024 records. Assumes nothing.
+-- The bench run of 01, B1 to B16, and that of the destination, by computation, at rows of 1, 64 and 1,024 records. Assumes nothing.
 use mathlib.Core.Path.{refl}
 use Rattle.lent.specs.Search.{readFrom}
 use Rattle.distinct.specs.Distinct.{has, distinctOf}

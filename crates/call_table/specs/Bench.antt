@@ -1,15 +1,16 @@
--- The bench run of 01, B1 to B14, in a single statement over the list: events, answers, signals, states and record numbers as the document
--- prints them, for calls by key 7 with hard on and symmetric soft, in a row of any length. Assumes nothing.
+-- The bench run of 01, B1 to B16, in a single statement over the list: events, answers, signals, states and record numbers as the document
+-- prints them, and from B12 on as 02, Ask 3, amends them, for calls by key 7 with hard on and symmetric soft, in a row of any length.
+-- Assumes nothing.
 use Prim.Native.Nat.{ℕ}
 use mathlib.Core.Bool.{true}
 use mathlib.Core.List.{List, [], _∷_}
 use mathlib.Core.Path.{_≡_}
 use lib.ListN.{replicate}
-use Rattle.signal.specs.Causes.{complete, inProgress, oldNumber, unsupported}
+use Rattle.signal.specs.Causes.{complete, inProgress, notRecovered, oldNumber, unsupported}
 use Rattle.signal.specs.Numbers.{answerNumber}
-use Rattle.signal.specs.Signals.{connectOn, places, rejection, releaseOf, setupOn, switchTo}
+use Rattle.signal.specs.Signals.{connectOn, places, rejection, releaseOf, setupOn, switchTo, timerStart}
 use Rattle.signal.specs.declared.Crankback.the-variants.{NoCrankback}
-use Rattle.signal.specs.declared.Kind.the-variants.{IncumbentRelease, ReroutingRelease}
+use Rattle.signal.specs.declared.Kind.the-variants.{CallingRelease, IncumbentRelease, ReroutingRelease}
 use Rattle.signal.specs.declared.ReceivedCause.the-variants.{NoCause, WithCause}
 use Rattle.signal.specs.declared.SentCause.the-variants.{Absent, Numbered}
 use Rattle.signal.specs.declared.Signal.{Signal}
@@ -18,9 +19,10 @@ use Rattle.signal.specs.declared.Switchover.{Switchover}
 use Rattle.signal.specs.declared.Wanted.the-variants.{Named}
 use Rattle.events.specs.declared.Act.{Act}
 use Rattle.events.specs.declared.Act.the-variants.{Meets, Opens}
-use Rattle.events.specs.declared.Event.the-variants.{Connect, FromDomain, PathFound, Ready, Setup, Trigger}
+use Rattle.events.specs.declared.Event.the-variants.{Connect, Expiry, FromDomain, PathFound, Ready, Setup, Trigger}
 use Rattle.rows.specs.declared.State.{State}
-use Rattle.rows.specs.declared.State.the-variants.{Awaiting, Idle, SoftInitiated, SoftProceeding, SoftTriggered}
+use Rattle.rows.specs.declared.State.the-variants.{Awaiting, HardUnderway as HardProceeding, Idle, SoftInitiated, SoftProceeding}
+use Rattle.rows.specs.declared.State.the-variants.{SoftTriggered}
 use Rattle.call.specs.Events.{Half, sourceHalf}
 use Rattle.call.specs.Record.{emptied}
 use Rattle.call.specs.declared.Call.{Call}
@@ -52,7 +54,7 @@ immediate = record { code = 0 }
 abbrev pub openBoth : Act
 openBoth = Opens (Named (record { hard = true; soft = Symmetric }))
 
--- B1 to B14
+-- B1 to B16, of which B15 is three events
 unfoldable pub benchRun : List Act
 benchRun =
     openBoth
@@ -69,6 +71,10 @@ benchRun =
     ∷ Meets (Setup clearing 6)
     ∷ Meets (Connect 4 true)
     ∷ openBoth
+    ∷ Meets Trigger
+    ∷ Meets PathFound
+    ∷ Meets (FromDomain 4 NoCause NoCrankback)
+    ∷ Meets Expiry
     ∷ []
 
 -- the row after a step: the call in a state, with its last number and its record number, and the other records empty
@@ -80,7 +86,11 @@ benchAfter others answer sent s last remote =
       table = record { key = 7; hard = true; soft = Symmetric; state = s; last = last; remote = remote } ∷ others;
     }
 
--- as 01 prints them: answer, signals, state with (incumbent, rerouting), last number given, record number
+-- and after the step by which the call ends: its record is emptied
+abbrev pub benchEnded : List Call → List Signal → BenchStep
+benchEnded others sent = record { answer = 0; signals = places sent; table = emptied ∷ others }
+
+-- as 01 prints them, and 02, Ask 3, amends them: answer, signals, state with (incumbent, rerouting), last number given, record number
 unfoldable pub benchShown : List Call → List BenchStep
 benchShown others =
     -- B1
@@ -105,12 +115,18 @@ benchShown others =
     ∷ benchAfter others 0 [] (SoftTriggered 3) 3 5
     -- B11
     ∷ benchAfter others 0 (setupOn 4 ∷ []) (SoftProceeding 3 4) 4 5
-    -- B12
-    ∷ benchAfter others 0 (rejection inProgress ∷ []) (SoftProceeding 3 4) 4 5
+    -- B12; from here 6 is on record (02, Ask 3)
+    ∷ benchAfter others 0 (rejection inProgress ∷ []) (SoftProceeding 3 4) 4 6
     -- B13
-    ∷ benchAfter others 0 (switchTo 4 ∷ releaseOf IncumbentRelease 3 (Numbered complete) ∷ []) (Idle 4) 4 5
+    ∷ benchAfter others 0 (switchTo 4 ∷ releaseOf IncumbentRelease 3 (Numbered complete) ∷ []) (Idle 4) 4 6
     -- B14
-    ∷ benchAfter others 103 [] (Idle 4) 4 5
+    ∷ benchAfter others 103 [] (Idle 4) 4 6
+    -- B15, three events
+    ∷ benchAfter others 0 [] (SoftTriggered 4) 4 6
+    ∷ benchAfter others 0 (setupOn 5 ∷ []) (SoftProceeding 4 5) 5 6
+    ∷ benchAfter others 0 (timerStart ∷ []) (HardProceeding 5) 5 6
+    -- B16
+    ∷ benchEnded others (releaseOf CallingRelease 0 (Numbered notRecovered) ∷ releaseOf ReroutingRelease 5 (Numbered notRecovered) ∷ [])
     ∷ []
 
 -- the statement, for a row of one record and `more` beside it

@@ -7,7 +7,7 @@ use mathlib.Core.List.{List, [], _∷_}
 use mathlib.Core.Path.{_≡_}
 use lib.ListN.{replicate}
 use Rattle.signal.specs.Causes.{complete, notRecovered, oldNumber, unsupported}
-use Rattle.signal.specs.Signals.{callRejected, connectOn, places, rejection, releaseOf, setupOn, switchTo, timerStart, timerStop}
+use Rattle.signal.specs.Signals.{callRejected, connectOn, rejection, releaseOf, setupOn, switchTo, timerStart, timerStop}
 use Rattle.signal.specs.declared.Crankback.the-variants.{NoCrankback}
 use Rattle.signal.specs.declared.Kind.the-variants.{CalledRelease, IncumbentRelease}
 use Rattle.signal.specs.declared.ReceivedCause.the-variants.{NoCause, WithCause}
@@ -21,7 +21,7 @@ use Rattle.rows.specs.declared.State.the-variants.{SoftInitiated, SoftProceedin
 use Rattle.call.specs.Events.{destinationHalf}
 use Rattle.call.specs.Record.{emptied}
 use Rattle.call.specs.declared.Call.{Call}
-use Rattle.call_table.specs.Bench.{BenchStep, benchAfter, benchSteps, clearing, immediate, openBoth}
+use Rattle.call_table.specs.Bench.{BenchStep, benchAfter, benchEnded, benchSteps, clearing, immediate, openBoth}
 
 -- a code that nobody knows
 abbrev pub unrecognized : Switchover
@@ -93,7 +93,7 @@ destinationShown others =
     -- 6.3.4.2 case 4: the incumbent fails
     ∷ benchAfter others 0 (timerStart ∷ []) HardIndicated 6 8
     -- 6.3.5.10 item 1: the timer expires, and the record is emptied
-    ∷ record { answer = 0; signals = places (releaseOf CalledRelease 0 (Numbered notRecovered) ∷ []); table = emptied ∷ others }
+    ∷ benchEnded others (releaseOf CalledRelease 0 (Numbered notRecovered) ∷ [])
     ∷ []
 
 -- the statement, for a row of one record and `more` beside it

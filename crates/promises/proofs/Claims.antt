@@ -13,7 +13,8 @@ use Rattle.call_table.proofs.Given.{first-is-one}
 use Rattle.call_table.specs.Table.{ranOf, tableOf}
 use Rattle.promises.proofs.Laws.{lawful, row}
 use Rattle.promises.proofs.Rejected.{one-sieve, too-many-are-refused, too-many-take-none, turns-away}
-use Rattle.promises.specs.Ends.{Sieve, Sifts, asAct, calls, document, numbering, ours}
+use Rattle.promises.proofs.Again.{never-taken-again}
+use Rattle.promises.specs.Ends.{ByServices, Sieve, Sifts, asAct, calls, document, numbering, ours}
 use Rattle.call_table.specs.Claims as table
 use Rattle.promises.specs.Claims as claim
 
@@ -41,7 +42,7 @@ one-number half ys a = first-is-one (table.checks half ys (a .key) (asAct (a .do
 pub one-control : (half : Half) → claim.OneControl half
 one-control half = one-number-leaves-one-control calls (document half) (one-number half)
 
-module _ (s : Sieve) (L : Lawful (s .half)) (S : Sifts s) where
+module _ (s : Sieve) (L : Lawful (s .half)) (S : Sifts s) (steady : ByServices s) where
   -- ---- demand 3
   pub demand-three : claim.DemandThree s (ours (s .half))
   demand-three = laws-keep-demand-three calls (numbering s) (ours (s .half)) (lawful (s .half) L) (turns-away s L S)
@@ -53,6 +54,7 @@ module _ (s : Sieve) (L : Lawful (s .half)) (S : Sifts s) where
         sifts = S;
         oneSieve = one-sieve s S;
         demandThree = demand-three;
+        neverTakenAgain = never-taken-again s L S steady demand-three;
         silentRefusals = silent-refusals (s .half) L;
         answersExactly = answers-exactly (s .half) L;
         doesExactly = does-exactly (s .half) L;

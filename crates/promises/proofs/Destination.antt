@@ -40,7 +40,7 @@ use Rattle.promises.proofs.Inserted.{same-event}
 use Rattle.promises.proofs.Rejected.{sifts-by}
 use Rattle.promises.proofs.Shown.{shown, shownAt}
 use Rattle.promises.specs.Claims.{KeepsPromises}
-use Rattle.promises.specs.Ends.{Sifts, asksSupported, calls, destinationSieve}
+use Rattle.promises.specs.Ends.{ByServices, Sifts, asksSupported, calls, destinationSieve}
 use Rattle.promises.specs.Inserted.{HasInsertions, LacksInWords, TakesInWords, destinationInWords}
 use Rattle.promises.specs.ShutOut.{ShutsOut}
 use Rattle.promises.specs.Inserted as claim
@@ -62,6 +62,9 @@ sifts =
     sifts-by destinationSieve (λ c. [])
     (λ c code number live. ap (λ b. b || not (hasService (c .hard) (c .soft))) live)
     (λ c code number. code-first (isHard (c .state)) (isUnrecognized code) _)
+
+by-services : ByServices destinationSieve
+by-services c d hard soft i = hasService (hard i) (soft i)
 
 has-service : (hard : Bool) (soft : Soft) → (hasService hard soft ≡ true) ↔ ((hard ≡ true) ⊎ ((soft ≡ Asymmetric) ⊎ (soft ≡ Symmetric)))
 has-service true soft = (λ h. inl refl, λ w. refl)
@@ -97,7 +100,7 @@ shows = refl
 
 -- ---- the promises
 pub promises : KeepsPromises destinationSieve
-promises = any.promises destinationSieve lawful sifts
+promises = any.promises destinationSieve lawful sifts by-services
 
 pub insertions : HasInsertions destinationSieve destinationInWords unrecognized
 insertions = any-run.insertions destinationSieve destinationInWords takes-in-words lacks-in-words shows unrecognized refl

@@ -48,7 +48,7 @@ each-of P k (c ∷ cs) each h = by-test (eqb (c .key) k) h (each-of P k cs (λ i
     by-test true t rest = each 0 (suc-le-suc zero-le)
     by-test false t rest = rest t
 
-key-of : (k : ℕ) (ys : List Call) → table.hasCall k ys ≡ true → table.callOf k ys .key ≡ k
+pub key-of : (k : ℕ) (ys : List Call) → table.hasCall k ys ≡ true → table.callOf k ys .key ≡ k
 key-of k ys h = has-key (calls .key) emptied k ys h
 
 -- the call of a key that stands in a fit table is in use
@@ -90,7 +90,7 @@ module _ (half : Half) (L : Lawful half) where
   after = handledAt half
 
   -- ---- what an answer 0 says: the table is fit, the key is not 0, and the key stands or does not
-  done-fit : (ys : List Call) (key : ℕ) (act : Act) → table.answered half ys key act ≡ 0 →
+  pub done-fit : (ys : List Call) (key : ℕ) (act : Act) → table.answered half ys key act ≡ 0 →
       (fitTable ys ≡ true) × ((eqb key 0 ≡ false) × (table.answerFor half ys key act ≡ 0))
   done-fit ys key act done = by-tests (fitTable ys) (eqb key 0) refl refl (sym (row .answersInOrder ys key act) ∙ done)
     where
@@ -124,7 +124,7 @@ module _ (half : Half) (L : Lawful half) where
       by-tests true free h f e = absurd (omega arith)
 
   -- ---- events
-  standing : (ys : List Call) (k : ℕ) (e : Event) → table.answerFor half ys k (Meets e) ≡ 0 →
+  pub standing : (ys : List Call) (k : ℕ) (e : Event) → table.answerFor half ys k (Meets e) ≡ 0 →
       (table.hasCall k ys ≡ true) × (answerNumber (after (table.callOf k ys) e .answer) ≡ 0)
   standing ys k e done = by-test (table.hasCall k ys) refl done
     where
@@ -206,3 +206,9 @@ module _ (half : Half) (L : Lawful half) where
         opened = opening-law;
         met = event-law;
       }
+
+  -- the call that an event leaves is what it makes of the call of its key
+  pub met-is : (ys : List Call) (k : ℕ) (e : Event) (done : table.answered half ys k (Meets e) ≡ 0) →
+      lawful .met ys k e done .call ≡ after (table.callOf k ys) e .call
+  unfolding lawful event-law
+  met-is ys k e done = refl

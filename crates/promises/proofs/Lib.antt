@@ -1,8 +1,10 @@
 pub mod Laws
 pub mod Rejected
+pub mod Again
 pub mod Claims
 pub mod Shown
 pub mod Inserted
+pub mod Night
 pub mod ShutOut
 pub mod Source
 pub mod Destination

@@ -14,7 +14,7 @@ use Rattle.runs.proofs.Demand.{nothing-inserted-where-refused}
 use Rattle.runs.specs.Demand.{TurnsAway}
 use Rattle.runs.specs.Late.{LateOrUnsupported, Rejected, SetupFor}
 use Rattle.runs.specs.Run.{KeyedRequest, Table, callByKey, emptyTable, meets}
-use Rattle.signal.specs.Causes.{oldNumber, unsupported}
+use Rattle.signal.specs.Causes.{inProgress, oldNumber, unsupported}
 use Rattle.signal.specs.Numbers.{answerNumber, isLate}
 use Rattle.signal.specs.Signals.{places, rejection}
 use Rattle.signal.specs.declared.ReroutingCause.{ReroutingCause}
@@ -26,6 +26,7 @@ use Rattle.events.specs.declared.Event.{Event}
 use Rattle.events.specs.declared.Event.the-variants.{Connect, Expiry, FromDomain, FromParty, NoPath, PathFound, Ready, Setup, Trigger}
 use Rattle.rows.specs.Checks.{rejectionWanted, rejections}
 use Rattle.rows.specs.States.{isNull}
+use Rattle.call.proofs.Setups.{six-is}
 use Rattle.call.specs.Claims.{Lawful}
 use Rattle.call.specs.Events.{Half}
 use Rattle.call.specs.Record.{emptied, standing}
@@ -68,10 +69,10 @@ no-number : {n : ℕ} → _≡_ {A = List ℕ} [] (n ∷ []) → ⊥
 no-number e = let one′ : _≡_ {A = ℕ} 0 1 = ap length e in omega arith
 
 -- so what is inserted is a setup with a code and that number
-abbrev IsSetup : Event → ℕ → Type 0
+abbrev pub IsSetup : Event → ℕ → Type 0
 IsSetup e n = (code : Switchover) × (e ≡ Setup code n)
 
-is-setup : (e : Event) (n : ℕ) → setupNumber e ≡ n ∷ [] → IsSetup e n
+pub is-setup : (e : Event) (n : ℕ) → setupNumber e ≡ n ∷ [] → IsSetup e n
 is-setup (Setup code number) n numbered = (code, ap (Setup code) (ap (λ (ns : List ℕ). getD ns 0 0) numbered))
 is-setup Trigger n numbered = absurd (no-number numbered)
 is-setup PathFound n numbered = absurd (no-number numbered)
@@ -124,13 +125,18 @@ module _ (s : Sieve) (L : Lawful (s .half)) (S : Sifts s) where
       by-code true has (inl late) = wanted-for c code number oldNumber taken live (S .late c code number has late)
       by-code true has (inr lacks) = absurd (true≢false lacks)
 
+  -- neither is #6
+  neither-is-6 : (b : Bool) → rejection (cond b oldNumber unsupported) ≡ rejection inProgress → ⊥
+  neither-is-6 true same = let z : _≡_ {A = ℕ} 5 6 = six-is oldNumber same in omega arith
+  neither-is-6 false same = let z : _≡_ {A = ℕ} 8 6 = six-is unsupported same in omega arith
+
   -- over a fit table, a setup whose rejection is wanted is answered 0 with it, and changes no record
   turned-away : (ys : Table calls) (k : ℕ) (code : Switchover) (number : ℕ) → table.FitTable ys → (k ≡ 0 → ⊥) →
       table.hasCall k ys ≡ true → Wanted (table.callOf k ys) code number →
       (table.answered (s .half) ys k (Meets (Setup code number)) ≡ 0)
       × ((ranOf (s .half) ys k (Meets (Setup code number)) .done .signals ≡ places (reject (table.callOf k ys) code ∷ [])) × (tableOf (s .half) ys k (Meets (Setup code number)) ≡ ys))
   turned-away ys k code number fit named here wants =
-      let left = event (s .half) L .rejectedSetupLeavesRecord (table.callOf k ys) (Setup code number) _ refl _ wants in
+      let left = event (s .half) L .rejectedSetupLeavesRecord (table.callOf k ys) (Setup code number) _ refl _ wants (neither-is-6 (s .supports (table.callOf k ys) code)) in
       let done : table.answered (s .half) ys k (Meets (Setup code number)) ≡ 0 =
       row (s .half) L .answersInOrder ys k (Meets (Setup code number)) ∙ rw (fit-exactly ys .1 fit, ne-eqb k 0 named, here) (left .0) in
       let changed = row (s .half) L .eventChangesItsCall ys k (Setup code number) done in

@@ -18,7 +18,7 @@ use Rattle.call_table.specs.Bench.{immediate}
 use Rattle.promises.proofs.Rejected.{sifts-by}
 use Rattle.promises.proofs.Shown.{shown, shownAt}
 use Rattle.promises.specs.Claims.{KeepsPromises}
-use Rattle.promises.specs.Ends.{Sifts, sourceSieve}
+use Rattle.promises.specs.Ends.{ByServices, Sifts, sourceSieve}
 use Rattle.promises.specs.Inserted.{HasInsertions, LacksInWords, TakesInWords, sourceInWords}
 use Rattle.promises.specs.ShutOut.{ShutsOut}
 use Rattle.promises.proofs.Claims as any
@@ -36,6 +36,9 @@ sifts =
     sifts-by sourceSieve (λ c. cond (isBusy (c .state)) (inProgress ∷ []) [])
     (λ c code number live. ap (λ b. b || not (hasSymmetric (c .soft))) live)
     (λ c code number. code-first (isClearing code) _)
+
+by-services : ByServices sourceSieve
+by-services c d hard soft = ap hasSymmetric soft
 
 is-symmetric : (soft : Soft) → (hasSymmetric soft ≡ true) ↔ (soft ≡ Symmetric)
 is-symmetric Symmetric = (λ h. refl, λ e. refl)
@@ -55,7 +58,7 @@ shows = refl
 
 -- ---- the promises
 pub promises : KeepsPromises sourceSieve
-promises = any.promises sourceSieve lawful sifts
+promises = any.promises sourceSieve lawful sifts by-services
 
 pub insertions : HasInsertions sourceSieve sourceInWords immediate
 insertions = any-run.insertions sourceSieve sourceInWords takes-in-words lacks-in-words shows immediate refl

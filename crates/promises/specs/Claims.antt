@@ -1,16 +1,18 @@
 -- The promises over whole runs, at either end of a call. "01" is the scope document, "02" the follow-up requests, a demand one of the three
 -- in README.md. A run starts from an empty table; its requests are openings and events, each answered in turn by a control (runs,
 -- specs/Run). Each promise is a statement about any control, said in runs of any end of a call; that ours keeps it is the theorem of the
--- same name in proofs/, once for any end whose half keeps the laws (call, specs/Claims) and whose number check is its own (specs/Ends).
--- For the ends: proofs/Source.antt, proofs/Destination.antt, proofs/Ends.antt. Assumes nothing.
+-- same name in proofs/, once for any end whose half keeps the laws (call, specs/Claims), whose number check is its own, and which takes
+-- setups by a call's services (specs/Ends). For the ends: proofs/Source.antt, proofs/Destination.antt, proofs/Ends.antt. Assumes nothing.
 use Prim.Native.Nat.{_<_, ℕ}
 use mathlib.Core.List.{List}
 use mathlib.Core.Path.{_≡_}
-use Rattle.runs.specs.Run.{Control, KeyedRequest, RefusalsAreSilent, emptyTable}
+use Rattle.runs.specs.Run.{Control, KeyedRequest, RefusalsAreSilent, Reply, emptyTable}
 use Rattle.runs.specs.Woven.{Strand, itself, woven}
 use Rattle.events.specs.declared.Node.{Node}
+use Rattle.call.specs.Claims.{Heard}
 use Rattle.call.specs.Events.{Half, halfOf}
 use Rattle.promises.specs.Ends.{OneSieve, Sieve, Sifts, calls, document, numbering, ours, sieveOf}
+use Rattle.runs.specs.Again as again
 use Rattle.runs.specs.Demand as demand
 use Rattle.runs.specs.Exact as exact
 
@@ -27,13 +29,24 @@ use Rattle.runs.specs.Exact as exact
 abbrev pub DemandThree : Sieve → Control calls → Type 0
 DemandThree s C = demand.KeepsDemandThree calls (numbering s) C
 
+-- a setup is heard: it is accepted, or rejected with #6 (call, specs/Claims)
+abbrev pub IsHeard : Reply calls → Type 0
+IsHeard r = Heard (r .answer) (r .signals)
+
+-- 02, Ask 3: the same setup sent again is never taken. In every run from an empty table of any length: after a setup was rejected with #6,
+-- or was accepted, a setup with the same key and number, whatever its code, is answered 0 with exactly one reject, #8 where its code is not
+-- supported and else #5, and changes no record, at every point until that call has ended (runs, specs/Again). At the destination, which has
+-- no #6, it speaks of the accepted ones.
+abbrev pub NeverTakenAgain : Sieve → Control calls → Type 0
+NeverTakenAgain s C = again.TakesNoneAgain calls (numbering s) IsHeard C
+
 -- Demand 1: a refusal changes no record and sends no signal, over any table.
 abbrev pub SilentRefusals : Control calls → Type 0
 SilentRefusals C = RefusalsAreSilent calls C
 
 module _ (half : Half) where
   -- Demands 1 and 2: over any table every request is answered with the number of the first check that applies, and what is done stores and
-  -- sends exactly what the documents ask of the end: at the source 01, at the destination 02, Ask 2, and 6.3.
+  -- sends exactly what the documents ask of the end: at the source 01, as 02 amends it, at the destination 02, Ask 2, and 6.3.
   abbrev pub AnswersExactly : Control calls → Type 0
   AnswersExactly C = exact.AnswersEverywhere calls (document half) C
 
@@ -60,6 +73,7 @@ pub record KeepsPromises (s : Sieve) : Type 0 where
   pub sifts : Sifts s
   pub oneSieve : OneSieve s
   pub demandThree : DemandThree s (ours (s .half))
+  pub neverTakenAgain : NeverTakenAgain s (ours (s .half))
   pub silentRefusals : SilentRefusals (ours (s .half))
   pub answersExactly : AnswersExactly (s .half) (ours (s .half))
   pub doesExactly : DoesExactly (s .half) (ours (s .half))

@@ -140,3 +140,7 @@ abbrev pub OneSieve : Sieve → Type 0
 OneSieve s =
     (takes : Call → Bool) (supports : Call → Switchover → Bool) → Sifts (record { half = s .half; takes = takes; supports = supports }) →
     (c : Call) → isNull (c .state) ≡ false → (takes c ≡ s .takes c) × ((code : Switchover) → supports c code ≡ s .supports c code)
+
+-- Which calls take setups is a matter of their services, which a call keeps while it lives.
+abbrev pub ByServices : Sieve → Type 0
+ByServices s = (c d : Call) → c .hard ≡ d .hard → c .soft ≡ d .soft → s .takes c ≡ s .takes d

@@ -62,7 +62,7 @@ awaitingCall = record { key = 7; hard = true; soft = Symmetric; state = Awaiting
 abbrev pub awaiting : Table calls
 awaiting = awaitingCall ∷ []
 
--- a setup rejected with a cause, as 01 prints it: answered 0, that one reject, and the table the same
+-- a setup rejected with #5 or #8, as 01 prints it: answered 0, that one reject, and the table the same
 abbrev pub rejectionReply : ReroutingCause → Reply calls
 rejectionReply k = record { answer = 0; signals = places (rejection k ∷ []); table = awaiting }
 

@@ -1,4 +1,5 @@
 pub mod Ends
 pub mod Claims
 pub mod Inserted
+pub mod Night
 pub mod ShutOut

@@ -25,13 +25,13 @@ use Rattle.rows.proofs.Sent.{append-none, kind-append, or-right, pad, p
 use Rattle.events.specs.declared.Node.{Node}
 use Rattle.events.specs.declared.Node.the-variants.{Destination, Source}
 use Rattle.rows.specs.Cases.{Standing, caseOf, happeningOf, hasRoom}
-use Rattle.rows.specs.Checks.{AllAre, AllIncumbent, Nones, isItsIncumbent, partyWanted, startsWanted, stopsWanted}
+use Rattle.rows.specs.Checks.{AllAre, AllIncumbent, Nones, isItsIncumbent, partyWanted, startsWanted, stopsWanted, unrejected}
 use Rattle.rows.specs.Effects.{closingSent, givesIn, givesNew, partyKind, said, sentBy, switchSent, timerSent}
 use Rattle.rows.specs.Effects.{toldSent, value}
-use Rattle.rows.specs.Laws.{closingNames, endsOtherwise, fits, givesWithSetup, hasRoomFor, isClosed, isExpired, isPartys, isQuiet}
-use Rattle.rows.specs.Laws.{isTimed, isTold, once, sameBool, sameSlot, sameTimer, sends, sendsSetup, stillness, switchNames}
+use Rattle.rows.specs.Laws.{accepts, closingNames, endsOtherwise, fits, givesWithSetup, hasRoomFor, isClosed, isExpired, isPartys, isQuiet}
+use Rattle.rows.specs.Laws.{isTimed, isTold, once, sameBool, sameSlot, sameTimer, sends, sendsSetup, setsUpOnce, stillness, switchNames}
 use Rattle.rows.specs.Laws.{tellsParty, timerWanted}
-use Rattle.rows.specs.Meaning.{givenBy, storedBy}
+use Rattle.rows.specs.Meaning.{acceptedBy, givenBy, storedBy}
 use Rattle.rows.specs.Rules.{Closing, LeavesTimer, NewNumber, NoClosing, NoSlot, OldIncumbent, OldRerouting, Rejects, Rule, Saying}
 use Rattle.rows.specs.Rules.{Says1, Says2, Says4, Says5, Says6, Says8, SaysAsCame, SaysNothing, SendsConnect, SendsSetup, Slot}
 use Rattle.rows.specs.Rules.{StartsTimer, StopsTimer, Tells, Timer, Told, Untold, isDone}
@@ -369,7 +369,7 @@ one-long : (b : Bool) (n : ℕ) → length (cond b (n ∷ []) []) ≡ once b
 one-long true n = refl
 one-long false n = refl
 
--- a setup is sent or accepted, and not both: where a number is stored, nothing is set up
+-- a setup is sent or accepted, and not both
 either-setup : (g s t : Bool) → sameBool g (s || t) ≡ true → not (s && t) ≡ true → once s + once t ≡ once g
 either-setup true true true p q = absurd (false≢true q)
 either-setup true true false p q = refl
@@ -637,14 +637,25 @@ module _ (node : Node) (x : Standing) (e : Event) (rule : Rule) (fit : fits rule
       by true q = refl
       by false q = q
 
-  pub given : givesWithSetup rule ≡ true → not (sendsSetup (rule .closing) && rule .stores) ≡ true →
-      length (ofKind SetupRequest (made .signals)) + length (storedBy e made) ≡ length (givenBy x made)
+  -- of what is stored, that of a setup which is not rejected
+  accepted-long : length (acceptedBy e made) ≡ once (accepts (rule .closing) (rule .stores))
+  accepted-long = ap (λ rs. length (unrejected rs (storedBy e made))) rejects-in ∙ by (rule .closing) (rule .stores)
+    where
+      by : (y : Closing) (b : Bool) →
+          length (unrejected (ofKind Rejection (closingSent s n got y)) (cond b (numberBrought e ∷ []) [])) ≡ once (accepts y b)
+      by NoClosing b = one-long b (numberBrought e)
+      by (SendsSetup slot) b = one-long b (numberBrought e)
+      by (SendsConnect slot) b = one-long b (numberBrought e)
+      by (Rejects say code) b = refl
+
+  pub given : givesWithSetup rule ≡ true → setsUpOnce rule ≡ true →
+      length (ofKind SetupRequest (made .signals)) + length (acceptedBy e made) ≡ length (givenBy x made)
   given p q =
       rw (
         kind-placed SetupRequest refl all (few node x e rule fit),
         closing-in SetupRequest refl refl refl refl refl refl refl,
         setups-sent s n got (rule .closing),
-        one-long (rule .stores) (numberBrought e),
+        accepted-long,
         one-long (givesNew rule) n,
       )
-      (either-setup (givesNew rule) (sendsSetup (rule .closing)) (rule .stores) p q)
+      (either-setup (givesNew rule) (sendsSetup (rule .closing)) (accepts (rule .closing) (rule .stores)) p q)

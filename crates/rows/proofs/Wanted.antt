@@ -26,8 +26,7 @@ use Rattle.rows.proofs.Sent.{append-none, cond-append, pad, placed, sen
 use Rattle.rows.specs.Cases.{Case, NamesIncumbent, NamesOther, NamesRerouting, Standing, askingOf, caseOf, happeningOf, hasRoom}
 use Rattle.rows.specs.Cases.{isIncumbent, isRerouting, roleOf}
 use Rattle.rows.specs.Checks.{Demands, answerNumberWanted, asksNumber, code21Wanted, firstOf, holds, isItsIncumbent, isNone}
-use Rattle.rows.specs.Checks.{namesNotHeld}
-use Rattle.rows.specs.Checks.{rejectionWanted, rejections, storedWanted}
+use Rattle.rows.specs.Checks.{namesNotHeld, numberStored, rejectionWanted, rejections, storedWanted}
 use Rattle.rows.specs.Effects.{causeSaid, causesOf, closingSent, partyKind, said, switchSent, timerSent, toldSent}
 use Rattle.rows.specs.Laws.{Wants, answerIn, asksFor, bears21, firstAnswer, fits, holdsRole, isEmpty, isLawful, saysNumber, isWanted}
 use Rattle.rows.specs.Laws.{laws, leavesRejected, leftAlone, namesUnheld, rejectedIn, rejectsWith, sameAnswer, sameBool, sameCode}
@@ -237,8 +236,7 @@ module _ (w : Wants) (d : Demands) (agrees : Agrees w d) (x : Standing) (e : Eve
       ap (λ t. cond t (number ∷ []) []) p
       ∙ λ i.
       cond
-      (not (agrees .meaningless x (Setup code number) i)
-      && ((none-of (w .rejected (phaseOf s) (askingOf code) (isLate number (x .remote))) ∙ ap isNone (agrees .rejected x code number)) i && hasRoom (x .last)))
+      (not (agrees .meaningless x (Setup code number) i) && numberStored (agrees .rejected x code number i) (hasRoom (x .last)))
       (number ∷ []) []
   stores-is (FromParty cause) b p = ap (λ t. cond t (0 ∷ []) []) p
   stores-is (FromDomain y cause crankback) b p = ap (λ t. cond t (0 ∷ []) []) p
@@ -278,14 +276,13 @@ module _ (w : Wants) (d : Demands) (agrees : Agrees w d) (x : Standing) (e : Eve
     alone (say ∷ more) q p o r wanted =
         let t : Each (leftAlone c rule) = each (leftAlone c rule) p in
         let put = balance.stays-put s n rule (t .1 .1 .0) (t .1 .1 .1 .0) (t .1 .1 .1 .1 .0) in
-        let one′ : length all ≡ 1 = sent-length (d .node) s n (receivedIn e) rule ∙ eqb-true (sends rule) 1 (t .1 .1 .1 .1 .1 .1 .0) in
+        let one′ : length all ≡ 1 = sent-length (d .node) s n (receivedIn e) rule ∙ eqb-true (sends rule) 1 (t .1 .1 .1 .1 .1 .0) in
         let own : ofKind Rejection all ≡ r ∷ [] = sym (signals.kind-placed Rejection refl all (balance.few (d .node) x e rule fit)) ∙ (o ∙ wanted) in
         record {
           done = eqb-true (answerNumber (rule .answer)) 0 (t .0);
           live = sym (signals.over-is s) ∙ not-so (isOver (phaseOf s)) (t .1 .0);
           state = put .state;
           gives = put .gives;
-          stores = not-so (rule .stores) (t .1 .1 .1 .1 .1 .0);
           signals = ap places (one-signal Rejection all r one′ own);
         }
 

@@ -166,7 +166,7 @@ module _ {M : Type 1} (𝓤 : URA M) (H : Heap 𝓤) (A : Atoms 𝓤) (memory : 
   abbrev rejected-shuts-out : ReroutingCause → State → Effect → Type 1
   rejected-shuts-out k s r = NeverHolds (Effect-rejected.clauses 𝓤 H A memory run tt (k, (s, tt)) .ensures tt r (k, (s, tt)))
 
-  -- a rejected setup leaves the record as it was, its number too (01, "Faults seen on shelves"; B5; 6.3.5)
+  -- a setup rejected with #8 or #5 leaves the record as it was, its number too (01, "Faults seen on shelves"; B5; 6.3.5)
   pub rejection-stores-the-number : (r : Effect) → r .stores ≡ true → rejected-shuts-out unsupported (Idle 3) r
   rejection-stores-the-number r w =
       fact-mono 𝓤 _ _ (λ h.

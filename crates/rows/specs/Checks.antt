@@ -115,18 +115,36 @@ rejectionWanted d x (FromDomain c cause crankback) = []
 rejectionWanted d x Ready = []
 rejectionWanted d x Expiry = []
 
--- the number that a setup stores: its own, where it is accepted; no other event stores one
+-- a setup that is rejected with this cause stores its number all the same: with #6, work in progress, and no other (02, Ask 3; 6.2.7)
+abbrev pub isStoredRejected : ReroutingCause → Bool
+isStoredRejected k = eqb (k .number) 6
+
+-- whether a setup that has a meaning stores its number, by what it is rejected with: one that is not rejected does where there is a next
+-- number, and is refused with 108 where there is none; a rejected one by its cause
+abbrev pub numberStored : List ReroutingCause → Bool → Bool
+numberStored [] room = room
+numberStored (k ∷ more) room = isStoredRejected k
+
+-- the number that a setup stores is its own; no other event stores one
 abbrev pub storedWanted : Demands → Standing → Event → List ℕ
 storedWanted d x Trigger = []
 storedWanted d x PathFound = []
 storedWanted d x NoPath = []
 storedWanted d x (Connect c agreed) = []
 storedWanted d x (Setup code number) =
-    cond (not (d .meaningless x (Setup code number)) && (isNone (d .rejected x code number) && hasRoom (x .last))) (number ∷ []) []
+    cond (not (d .meaningless x (Setup code number)) && numberStored (d .rejected x code number) (hasRoom (x .last))) (number ∷ []) []
 storedWanted d x (FromParty cause) = []
 storedWanted d x (FromDomain c cause crankback) = []
 storedWanted d x Ready = []
 storedWanted d x Expiry = []
+
+-- the number of a setup that is accepted: it is stored, and nothing is rejected
+abbrev pub unrejected : List Signal → List ℕ → List ℕ
+unrejected [] stored = stored
+unrejected (r ∷ more) stored = []
+
+abbrev pub acceptedWanted : Demands → Standing → Event → List ℕ
+acceptedWanted d x e = unrejected (rejectionWanted d x e) (storedWanted d x e)
 
 -- the releases with Cause code #21, which carry no Rerouting cause beside it (decision 12)
 abbrev pub code21Wanted : Demands → Standing → Event → List Signal

@@ -10,7 +10,8 @@ use Rattle.signal.specs.declared.CauseCode.{CauseCode}
 use Rattle.signal.specs.declared.CauseCode.the-variants.{CallRejected, Section66}
 use Rattle.rows.specs.Cases.{Asking, Case, Connected, DomainReleased, Expired, FoundNone, FoundPath, Happening, NamesIncumbent}
 use Rattle.rows.specs.Cases.{NamesOther, NamesRerouting, PartyReleased, Role, SaidReady, SetUp, Triggered}
-use Rattle.rows.specs.Effects.{givesNew}
+use Rattle.rows.specs.Checks.{numberStored}
+use Rattle.rows.specs.Effects.{causesOf, givesNew}
 use Rattle.rows.specs.Every.{conj}
 use Rattle.rows.specs.Rules.{Closing, LeavesTimer, NewNumber, NoClosing, NoSlot, OldIncumbent, OldRerouting, Rejects, Rule, Saying}
 use Rattle.rows.specs.Rules.{Says1, Says2, Says4, Says5, Says6, Says8, SaysAsCame, SaysNothing, SendsConnect, SendsSetup, Slot}
@@ -234,13 +235,20 @@ sendsSetup (Rejects say code) = false
 abbrev pub tellsParty : Case → Rule → Bool
 tellsParty c rule = not (isDone (rule .answer)) || sameBool (isTold (rule .party)) (endsOtherwise c (rule .phase))
 
+-- a setup is accepted where its number is stored and it is not rejected; told what is sent last, and whether the number is stored
+abbrev pub accepts : Closing → Bool → Bool
+accepts NoClosing stores = stores
+accepts (SendsSetup slot) stores = stores
+accepts (SendsConnect slot) stores = stores
+accepts (Rejects say code) stores = false
+
 -- a number is given exactly with a setup that is sent or accepted
 abbrev pub givesWithSetup : Rule → Bool
-givesWithSetup rule = sameBool (givesNew rule) (sendsSetup (rule .closing) || rule .stores)
+givesWithSetup rule = sameBool (givesNew rule) (sendsSetup (rule .closing) || accepts (rule .closing) (rule .stores))
 
 -- and not with both
 abbrev pub setsUpOnce : Rule → Bool
-setsUpOnce rule = not (sendsSetup (rule .closing) && rule .stores)
+setsUpOnce rule = not (sendsSetup (rule .closing) && accepts (rule .closing) (rule .stores))
 
 -- a number is given only on a path found, by a setup, or over an alternate path: no other event of either end asks for one
 abbrev pub mayGive : Happening → Bool
@@ -334,13 +342,13 @@ rejectedIn w c (DomainReleased role class crankback) = []
 rejectedIn w c SaidReady = []
 rejectedIn w c Expired = []
 
--- a number is stored exactly by an accepted setup
+-- a number is stored exactly by an accepted setup, and by one that is rejected with #6
 abbrev pub storesIn : Wants → Case → Happening → Bool
 storesIn w c Triggered = false
 storesIn w c FoundPath = false
 storesIn w c FoundNone = false
 storesIn w c (Connected role agreed) = false
-storesIn w c (SetUp asked late) = not (w .meaningless c) && (isEmpty (w .rejected (c .phase) asked late) && c .room)
+storesIn w c (SetUp asked late) = not (w .meaningless c) && numberStored (causesOf (w .rejected (c .phase) asked late)) (c .room)
 storesIn w c (PartyReleased class) = false
 storesIn w c (DomainReleased role class crankback) = false
 storesIn w c SaidReady = false
@@ -368,7 +376,7 @@ rejectsWith (wanted ∷ more) (SendsSetup slot) = false
 rejectsWith (wanted ∷ more) (SendsConnect slot) = false
 rejectsWith (wanted ∷ more) (Rejects say code) = sameSaying say wanted && (sameCode code Section66 && (isEmpty more && saysNumber wanted))
 
--- a rejected setup is one for a call, is answered 0, leaves the call as it is, and sends that rejection alone
+-- a rejected setup is one for a call, is answered 0, leaves the call in its state with what it holds, and sends that rejection alone
 abbrev pub leftAlone : Case → Rule → List Bool
 leftAlone c rule =
     isDone (rule .answer)
@@ -376,7 +384,6 @@ leftAlone c rule =
     ∷ samePhase (rule .phase) (c .phase)
     ∷ sameSlot (rule .incumbent) (ownIncumbent (c .phase))
     ∷ sameSlot (rule .rerouting) (ownRerouting (c .phase))
-    ∷ not (rule .stores)
     ∷ eqb (sends rule) 1
     ∷ []
 

@@ -17,7 +17,7 @@ use Rattle.events.specs.declared.Event.{Event}
 use Rattle.events.specs.declared.Node.{Node}
 use Rattle.rows.specs.Cases.{Standing, askingOf, caseOf, hasRoom}
 use Rattle.rows.specs.Checks.{AllAre, AllIncumbent, Demands, Nones, answerNumberWanted, code21Wanted, partyWanted, rejectionWanted}
-use Rattle.rows.specs.Checks.{startsWanted, stopsWanted, storedWanted}
+use Rattle.rows.specs.Checks.{startsWanted, stopsWanted, storedWanted, unrejected}
 use Rattle.rows.specs.Effects.{causesOf, partyKind}
 use Rattle.rows.specs.Laws.{Wants}
 use Rattle.rows.specs.Rules.{isDone}
@@ -31,6 +31,10 @@ givenBy x f = cond (f .gives) ((x .last + 1) ∷ []) []
 -- the incarnation number that it stores
 abbrev pub storedBy : Event → Effect → List ℕ
 storedBy e f = cond (f .stores) (numberBrought e ∷ []) []
+
+-- the same of a setup that is accepted: nothing is rejected
+abbrev pub acceptedBy : Event → Effect → List ℕ
+acceptedBy e f = unrejected (ofKind Rejection (f .signals)) (storedBy e f)
 
 -- the connections whose release was received and not refused
 abbrev pub endedGot : Event → Effect → List ℕ
@@ -70,15 +74,15 @@ pub record Kept (node : Node) (x : Standing) (e : Event) (f : Effect) : Type 0 w
   -- a number is given only where there is one, to a call that goes on, and exactly with a setup sent or accepted
   pub lives : f .gives ≡ true → isNull (f .state) ≡ false
   pub roomy : f .gives ≡ true → hasRoom (x .last) ≡ true
-  pub given : length (ofKind SetupRequest (f .signals)) + length (storedBy e f) ≡ length (givenBy x f)
+  pub given : length (ofKind SetupRequest (f .signals)) + length (acceptedBy e f) ≡ length (givenBy x f)
 
--- what a rejection leaves: it is done, there is a call, which it leaves as it was, and it is all that is sent
+-- what a rejection leaves: it is done, there is a call, which stays in its state with what it holds, and it is all that is sent. Whether
+-- the setup's number is stored is said by `stored` of `Obeys`
 pub record Left (x : Standing) (f : Effect) (r : Signal) : Type 0 where
   pub done : answerNumber (f .answer) ≡ 0
   pub live : isNull (x .state) ≡ false
   pub state : f .state ≡ x .state
   pub gives : f .gives ≡ false
-  pub stores : f .stores ≡ false
   pub signals : f .signals ≡ places (r ∷ [])
 
 -- what an event does that the documents of an end ask for

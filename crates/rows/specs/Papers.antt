@@ -7,8 +7,8 @@ use mathlib.Core.List.{List, [], _∷_}
 use Rattle.signal.specs.declared.Answer.{Answer}
 use Rattle.signal.specs.declared.CauseCode.the-variants.{Section66}
 use Rattle.rows.specs.Cases.{Case}
-use Rattle.rows.specs.Laws.{isBalanced, isQuiet, isTimed, isTold, sameAnswer, sameBool, sameCode, samePhase, sameSaying, sameSlot}
-use Rattle.rows.specs.Laws.{sendsSetup, tellsParty}
+use Rattle.rows.specs.Laws.{accepts, isBalanced, isQuiet, isTimed, isTold, sameAnswer, sameBool, sameCode, samePhase, sameSaying}
+use Rattle.rows.specs.Laws.{sameSlot, sendsSetup, tellsParty}
 use Rattle.rows.specs.Rules.{Closing, NewNumber, NoClosing, NoSlot, OldIncumbent, OldRerouting, Rejects, Rule, SaysNothing}
 use Rattle.rows.specs.Rules.{SendsConnect, SendsSetup, Slot, Tells, Told, Untold, isDone}
 use Rattle.rows.specs.States.{Phase, holdsIncumbent, holdsRerouting}
@@ -96,7 +96,8 @@ incumbentWanted phase switch = cond (holdsIncumbent phase) (cond (sameSlot switc
 
 -- the rerouting connection is a new one exactly where a setup is sent or accepted
 abbrev pub reroutingWanted : Phase → Closing → Bool → Slot
-reroutingWanted phase closing stores = cond (holdsRerouting phase) (cond (sendsSetup closing || stores) NewNumber OldRerouting) NoSlot
+reroutingWanted phase closing stores =
+    cond (holdsRerouting phase) (cond (sendsSetup closing || accepts closing stores) NewNumber OldRerouting) NoSlot
 
 -- a release that is sent carries what it must
 abbrev pub carries : Told → Told → Bool

@@ -324,7 +324,7 @@ checkedBy meaningless acceptable c =
     (isForUnheld (c .phase) (c .happening))
     (takesNumber acceptable (c .phase) (c .happening) && not (c .room))
 
--- an accepted setup stores its number, and no other does (01, "Setup")
+-- an accepted setup stores its number (01, "Setup"); of a setup that is not, an end says for itself whether it does
 abbrev pub isStoredBy : (Case → Answer) → (Phase → Asking → Bool → Bool) → Case → Bool
 isStoredBy answer acceptable c = isDone (answer c) && isSetup (acceptable (c .phase)) (c .happening)
 

@@ -160,7 +160,7 @@ impl Effect {
         Effect::done(state, Signal::NONE, Signal::NONE, Signal::NONE)
     }
 
-    // A setup is rejected to the neighbour, which leaves the call as it is.
+    // A setup is rejected to the neighbour with #8 or #5, which leaves the whole record as it was.
     pub fn rejected(cause: ReroutingCause, state: State) -> Effect
         ensures { λ r. ⌜ r ≡ rejectionLeft cause state ⌝ }
     {

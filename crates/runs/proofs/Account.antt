@@ -50,7 +50,7 @@ module _ (E : End) (C : Control E) (L : LawfulControl E C) where
   of k ys = callByKey E k ys
 
   -- what holds from request to request, of one key: of its record, whether it is on record, and its log
-  record Keeps (c : E .Record) (live : Bool) (l : Log) : Type 0 where
+  pub record Keeps (c : E .Record) (live : Bool) (l : Log) : Type 0 where
     pub numbers : l .given ≡ oneTo (length (l .given))
     pub recorded : live ≡ true → length (l .given) ≡ E .last c
     pub counted : (x : ℕ) → count x (l .given) ≡ count x (l .ended) + count x (E .held c)
@@ -58,7 +58,7 @@ module _ (E : End) (C : Control E) (L : LawfulControl E C) where
     pub before : AllSettled (l .past)
 
   -- and that the key stands at most once
-  abbrev Kept : ℕ → Table E → Log → Type 0
+  abbrev pub Kept : ℕ → Table E → Log → Type 0
   Kept k ys l = Keeps (of k ys) (on k ys) l × Once (E .key) (E .empty) k ys
 
   -- the account, from that
@@ -154,7 +154,7 @@ module _ (E : End) (C : Control E) (L : LawfulControl E C) where
   emptied-other k d named emptied s = named (sym s ∙ (ap (E .key) emptied ∙ L .unused))
 
   -- the call's record after it
-  now-is : (k : ℕ) (ys : Table E) (e : E .Event) (r : Reply E) → (k ≡ 0 → ⊥) → Once (E .key) (E .empty) k ys → (m : Met E ys k e r) →
+  pub now-is : (k : ℕ) (ys : Table E) (e : E .Event) (r : Reply E) → (k ≡ 0 → ⊥) → Once (E .key) (E .empty) k ys → (m : Met E ys k e r) →
       of k (r .table) ≡ m .call
   now-is k ys e r named single m = ap (of k) (m .stored) ∙ by-life (m .lives)
     where
@@ -165,7 +165,7 @@ module _ (E : End) (C : Control E) (L : LawfulControl E C) where
           ∙ sym emptied
 
   -- whether the key is on record after it: not where the record was emptied
-  off-record : (k : ℕ) (ys : Table E) (e : E .Event) (r : Reply E) → (k ≡ 0 → ⊥) → Once (E .key) (E .empty) k ys → (m : Met E ys k e r) →
+  pub off-record : (k : ℕ) (ys : Table E) (e : E .Event) (r : Reply E) → (k ≡ 0 → ⊥) → Once (E .key) (E .empty) k ys → (m : Met E ys k e r) →
       m .call ≡ E .empty → on k (r .table) ≡ false
   off-record k ys e r named single m emptied = ap (on k) (m .stored) ∙ gone (E .key) (E .empty) k (m .call) ys single (emptied-other k (m .call) named emptied)
 
@@ -214,7 +214,7 @@ module _ (E : End) (C : Control E) (L : LawfulControl E C) where
       asked′ x a = omega (arith, count-append x (l .given) (givenBetween E (of k ys) (m .call)), count-append x (l .requested) (askedBy E r), h .0 .asked x a, m .asks x a)
 
   -- ---- a request for another key leaves this one
-  record Same (k : ℕ) (ys zs : Table E) : Type 0 where
+  pub record Same (k : ℕ) (ys zs : Table E) : Type 0 where
     pub on-same : on k zs ≡ on k ys
     pub of-same : of k zs ≡ of k ys
     pub single : Once (E .key) (E .empty) k ys → Once (E .key) (E .empty) k zs
@@ -228,7 +228,7 @@ module _ (E : End) (C : Control E) (L : LawfulControl E C) where
         single = λ h. subst (Once (E .key) (E .empty) k) (sym stored) (once-same (E .key) (E .empty) k j d ys new h);
       }
 
-  other-same : (k j : ℕ) (ys : Table E) (does : Does (E .Wanted) (E .Event)) → (k ≡ 0 → ⊥) → (j ≡ k → ⊥) → C ys (record { key = j; does = does }) .answer ≡ 0 →
+  pub other-same : (k j : ℕ) (ys : Table E) (does : Does (E .Wanted) (E .Event)) → (k ≡ 0 → ⊥) → (j ≡ k → ⊥) → C ys (record { key = j; does = does }) .answer ≡ 0 →
       Same k ys (C ys (record { key = j; does = does }) .table)
   other-same k j ys (opens w) named other done =
       let o = L .opened ys j w done in replaced-same k 0 (o .call) ys _ (o .stored) (λ s. named (sym s)) (λ s. other (sym (o .own) ∙ s))
@@ -255,7 +255,7 @@ module _ (E : End) (C : Control E) (L : LawfulControl E C) where
   own-refused (meets e) before now r l = refl
 
   -- ---- any request, and a run
-  step : (k j : ℕ) (ys : Table E) (does : Does (E .Wanted) (E .Event)) (l : Log) → (k ≡ 0 → ⊥) → Kept k ys l →
+  pub step : (k j : ℕ) (ys : Table E) (does : Does (E .Wanted) (E .Event)) (l : Log) → (k ≡ 0 → ⊥) → Kept k ys l →
       Kept k (C ys (record { key = j; does = does }) .table) (noted E k ys (record { key = j; does = does }) (C ys (record { key = j; does = does })) l)
   step k j ys does l named h = by-tests (eqb j k) (eqb (r .answer) 0) refl refl
     where
@@ -278,7 +278,7 @@ module _ (E : End) (C : Control E) (L : LawfulControl E C) where
       by-tests false true own done = kept-same k ys (r .table) l (other-same k j ys does named (eqb-false j k own) (eqb-true (r .answer) 0 done)) h
       by-tests false false own done = subst (λ zs. Kept k zs l) (sym (L .refused ys a (eqb-false (r .answer) 0 done) .0)) h
 
-  along : (k : ℕ) (ys : Table E) (requests : List (KeyedRequest E)) (l : Log) → (k ≡ 0 → ⊥) → Kept k ys l →
+  pub along : (k : ℕ) (ys : Table E) (requests : List (KeyedRequest E)) (l : Log) → (k ≡ 0 → ⊥) → Kept k ys l →
       Kept k (tableAfter E C ys requests) (logged E C k ys l requests)
   along k ys [] l named h = h
   along k ys (a ∷ more) l named h = along k (C ys a .table) more (noted E k ys a (C ys a) l) named (step k (a .key) ys (a .does) l named h)
@@ -287,7 +287,7 @@ module _ (E : End) (C : Control E) (L : LawfulControl E C) where
   none-first : (k n : ℕ) → (k ≡ 0 → ⊥) → on k (emptyTable E n) ≡ false
   none-first k n named = none-on (E .key) (E .empty) k n (λ s. named (sym s ∙ L .unused))
 
-  at-first : (k n : ℕ) → (k ≡ 0 → ⊥) → Kept k (emptyTable E n) emptyLog
+  pub at-first : (k n : ℕ) → (k ≡ 0 → ⊥) → Kept k (emptyTable E n) emptyLog
   at-first k n named = (
     record {
       numbers = refl;

@@ -33,6 +33,10 @@ pub record KeyedRequest (E : End) : Type 0 where
   pub key : ℕ
   pub does : Does (E .Wanted) (E .Event)
 
+-- an event by a key
+abbrev pub eventBy : (E : End) → ℕ → E .Event → KeyedRequest E
+eventBy E k e = record { key = k; does = meets e }
+
 -- the records of a table, in their order
 abbrev pub Table : End → Type 0
 Table E = List (E .Record)

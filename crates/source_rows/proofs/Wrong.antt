@@ -4,13 +4,16 @@ use Prim.Native.Nat.{ℕ}
 use native.Mathlib.Omega.{arith}
 use mathlib.Core.Bool.{cond, false, true}
 use mathlib.Core.Path.{_≡_, ap}
+use Rattle.signal.specs.declared.Answer.the-variants.{NumbersSpent}
+use Rattle.signal.specs.declared.CauseCode.the-variants.{Section66}
 use Rattle.signal.specs.declared.Crankback.the-variants.{AlternateFound, NoCrankback}
 use Rattle.signal.specs.declared.Soft.the-variants.{Asymmetric, Symmetric}
 use Rattle.rows.proofs.NotTheRow.{NotTheRow, at}
 use Rattle.rows.specs.Cases.{AsksClearing, AsksImmediate, Connected, DomainReleased, Expired, FoundNone, NamesIncumbent}
 use Rattle.rows.specs.Cases.{NamesRerouting, PartyReleased, SaidReady, SetUp, Triggered}
-use Rattle.rows.specs.Rules.{NewNumber, NoSlot, OldIncumbent, OldRerouting, Says1, Says2, Says4, Says8, SaysAsCame, SendsConnect}
-use Rattle.rows.specs.Rules.{SendsSetup, closed, dropping, ends, plainly, retiring, stays, stopping, storing, telling, to, with}
+use Rattle.rows.specs.Rules.{NewNumber, NoSlot, OldIncumbent, OldRerouting, Rejects, Says1, Says2, Says4, Says5, Says6, Says8, SaysAsCame}
+use Rattle.rows.specs.Rules.{SendsConnect, SendsSetup, closed, dropping, ends, plainly, refuses, retiring, stays, stopping, storing}
+use Rattle.rows.specs.Rules.{telling, to, with}
 use Rattle.rows.specs.States.{AtAwaiting, AtHardUnderway, AtHardWaiting, AtIdle, AtSoftInitiated, AtSoftProceeding, AtSoftTriggered}
 use Rattle.rows.specs.declared.Class.the-variants.{CameComplete, CameNone, CameOther, CameOutside}
 use Rattle.source_rows.specs.Elsewhere.{sourcePapers}
@@ -76,6 +79,54 @@ pub number-stored-before-the-code-is-tested :
     NotTheRow sourcePapers (at AtIdle true Symmetric true (SetUp AsksImmediate false))
     (storing (rejects Says8 AtIdle))
 number-stored-before-the-code-is-tested h = let z : _≡_ {A = ℕ} 0 1 = ap (λ b. cond b 1 0) h in omega arith
+
+-- nor does it while a reroute is in progress
+pub unsupported-number-stored-in-progress :
+    NotTheRow sourcePapers (at AtSoftTriggered true Symmetric true (SetUp AsksImmediate false))
+    (storing (rejects Says8 AtSoftTriggered))
+unsupported-number-stored-in-progress h = let z : _≡_ {A = ℕ} 0 1 = ap (λ b. cond b 1 0) h in omega arith
+
+-- one rejected with #5 leaves it too, idle and in progress (01, "Setup" row 2; B4)
+pub old-number-stored :
+    NotTheRow sourcePapers (at AtIdle true Symmetric true (SetUp AsksClearing true)) (storing (rejects Says5 AtIdle))
+old-number-stored h = let z : _≡_ {A = ℕ} 0 1 = ap (λ b. cond b 1 0) h in omega arith
+
+pub old-number-stored-in-progress :
+    NotTheRow sourcePapers (at AtHardUnderway true Symmetric true (SetUp AsksClearing true))
+    (storing (rejects Says5 AtHardUnderway))
+old-number-stored-in-progress h = let z : _≡_ {A = ℕ} 0 1 = ap (λ b. cond b 1 0) h in omega arith
+
+-- one rejected with #6 stores its number all the same, in each of the four states (02, Ask 3; 6.2.7; B12)
+pub number-forgotten-in-hard-triggered :
+    NotTheRow sourcePapers (at AtHardWaiting true Symmetric true (SetUp AsksClearing false)) (rejects Says6 AtHardWaiting)
+number-forgotten-in-hard-triggered h = let z : _≡_ {A = ℕ} 0 1 = ap (λ b. cond b 1 0) h in omega arith
+
+pub number-forgotten-in-hard-proceeding :
+    NotTheRow sourcePapers (at AtHardUnderway true Symmetric true (SetUp AsksClearing false)) (rejects Says6 AtHardUnderway)
+number-forgotten-in-hard-proceeding h = let z : _≡_ {A = ℕ} 0 1 = ap (λ b. cond b 1 0) h in omega arith
+
+pub number-forgotten-in-soft-triggered :
+    NotTheRow sourcePapers (at AtSoftTriggered true Symmetric true (SetUp AsksClearing false)) (rejects Says6 AtSoftTriggered)
+number-forgotten-in-soft-triggered h = let z : _≡_ {A = ℕ} 0 1 = ap (λ b. cond b 1 0) h in omega arith
+
+pub number-forgotten-in-soft-proceeding :
+    NotTheRow sourcePapers (at AtSoftProceeding true Symmetric true (SetUp AsksClearing false)) (rejects Says6 AtSoftProceeding)
+number-forgotten-in-soft-proceeding h = let z : _≡_ {A = ℕ} 0 1 = ap (λ b. cond b 1 0) h in omega arith
+
+-- at 65,535 too (decision 79), where it is not refused either: it asks for no connection
+pub number-forgotten-at-65535 :
+    NotTheRow sourcePapers (at AtSoftProceeding true Symmetric false (SetUp AsksClearing false)) (rejects Says6 AtSoftProceeding)
+number-forgotten-at-65535 h = let z : _≡_ {A = ℕ} 0 1 = ap (λ b. cond b 1 0) h in omega arith
+
+pub setup-in-progress-refused-with-108 :
+    NotTheRow sourcePapers (at AtHardWaiting true Symmetric false (SetUp AsksClearing false)) (refuses NumbersSpent AtHardWaiting)
+setup-in-progress-refused-with-108 h = let z : _≡_ {A = ℕ} 0 1 = ap (λ b. cond b 1 0) h in omega arith
+
+-- and nothing but the number moves: no connection is taken for it
+pub number-taken-for-a-rejected-setup :
+    NotTheRow sourcePapers (at AtSoftProceeding true Symmetric true (SetUp AsksClearing false))
+    (storing (dropping plainly (closed (Rejects Says6 Section66) (to AtSoftProceeding OldIncumbent NewNumber))))
+number-taken-for-a-rejected-setup h = let z : _≡_ {A = ℕ} 0 1 = ap (λ b. cond b 1 0) h in omega arith
 
 -- row 5 releases the older rerouting connection, and names no Rerouting cause (01, "Setup"; B6; decision 11)
 pub older-setup-released-with-4 :

@@ -1,10 +1,11 @@
 -- What the papers say of the source's events elsewhere than in the printed rows: 01's checks and general sentences, Annex D (tables
 -- D.13 to D.25) item by item, and table C-1 of Appendix C cell by cell. "Dn-m" is an item of Annex D; "C-1" a cell of that table, with
--- its procedure (Snp) of B-2 or C-2; 6.2.4.5 and its like a section of af-cs-0173.000; "01" the scope document; "decision n" a settled
--- reading. An item tells its whole situation itself; the dispatch on event and state only keeps the lists short. One that orders a
--- release and names no Rerouting cause is silent on it (01, "Signals"). No entry: D12 (the states), D16-6, D17-9, D19-8, D21-4, D22-5,
--- D25-17 (weights), D20-3 (what the Cause code's element holds), D23, D25-7 (quality of service), D25-1, D25-2 (the key is looked up
--- before a call is met). Null has none: there every event is refused (decision 26). Assumes nothing.
+-- its procedure (Snp) of B-2 or C-2; 6.2.4.5 and its like a section of af-cs-0173.000; "01" the scope document; "02" the follow-up
+-- requests, which amend it; "decision n" a settled reading. An item tells its whole situation itself; the dispatch on event and state only
+-- keeps the lists short. One that orders a release and names no Rerouting cause is silent on it (01, "Signals"). No entry: D12 (the
+-- states), D16-6, D17-9, D19-8, D21-4, D22-5, D25-17 (weights), D20-3 (what the Cause code's element holds), D23, D25-7 (quality of
+-- service), D25-1, D25-2 (the key is looked up before a call is met). Null has none: there every event is refused (decision 26). Assumes
+-- nothing.
 use mathlib.Core.Bool.{Bool, _&&_, _||_, false, not, true}
 use mathlib.Core.List.{List, [], _++_, _∷_}
 use lib.Dec.{eqb}
@@ -17,13 +18,13 @@ use Rattle.rows.specs.Cases.{Triggered, asksClearing, cameNone}
 use Rattle.rows.specs.Laws.{samePhase}
 use Rattle.rows.specs.Papers.{Item, Papers}
 use Rattle.rows.specs.Rules.{NoClosing, Says1, Says2, Says4, Says5, Says6, Says8}
-use Rattle.rows.specs.Rules.{SaysAsCame, Untold, plainly, turnedAway, with}
+use Rattle.rows.specs.Rules.{SaysAsCame, Untold, isDone, plainly, turnedAway, with}
 use Rattle.rows.specs.Situations.{about, asksImmediate, asksUnrecognized, atLastNumber, came1, came4, cameAny, cameNeither, cameNot1}
 use Rattle.rows.specs.Situations.{cameNot4, cameSome, cell, checkedBy, closesBy, connectIn, connectionsGet, connectIsSent, crankedFound}
 use Rattle.rows.specs.Situations.{crankedIn, crankedLost, crankedNone, domainReleaseIn as calledIn, forNamed, goesTo, happensIn, hardOff}
-use Rattle.rows.specs.Situations.{hardOn, inBoth, incumbentGets, isLateSetup, isSoftSetup, partyAndReroutingGet as callingAndReroutingGet}
-use Rattle.rows.specs.Situations.{partyGets as callingGets, partyReleaseIn as callingIn, policyAny, policyYes, rejectedWith}
-use Rattle.rows.specs.Situations.{reroutingGets, setupCameIn, setupIsSent, isStoredBy, switchesBy, withRoom}
+use Rattle.rows.specs.Situations.{hardOn, inBoth, incumbentGets, isLateSetup, isSetup, isSoftSetup, isStoredBy}
+use Rattle.rows.specs.Situations.{partyAndReroutingGet as callingAndReroutingGet, partyGets as callingGets, partyReleaseIn as callingIn}
+use Rattle.rows.specs.Situations.{policyAny, policyYes, rejectedWith, reroutingGets, setupCameIn, setupIsSent, switchesBy, withRoom}
 use Rattle.rows.specs.States.{AtAwaiting, AtHardUnderway, AtHardWaiting, AtIdle, AtNull, AtSoftInitiated, AtSoftProceeding}
 use Rattle.rows.specs.States.{AtSoftTriggered, Phase, isHardPhase}
 
@@ -58,10 +59,16 @@ isAcceptable phase asked late = isSoftSetup asked late && not (triggeredPhase ph
 abbrev pub checked : Case → Answer
 checked = checkedBy (λ c. isWithoutMeaning (c .phase) (c .soft) (c .happening)) isAcceptable
 
--- 01, "Setup": an accepted setup stores its number, and no other does. D25-6 and 6.2.7 store a greater number also where the setup is
--- then rejected with #6 (D25-6 to the letter with #8 too): 01 departs from that, and an item has no word for it.
+-- a setup that is rejected with #6: neither #8 nor #5 meets it, in a Triggered or a Proceeding state (01, "Setup", 3; 6.2.7.2 to 6.2.7.5)
+abbrev pub isRejectedWith6 : Phase → Asking → Bool → Bool
+isRejectedWith6 phase asked late = isSoftSetup asked late && (triggeredPhase phase || proceedingPhase phase)
+
+-- An accepted setup stores its number (01, "Setup"), and so does one that is rejected with #6, at 65,535 too, since it takes no connection
+-- (02, Ask 3, which amends 01; 6.2.7 stores before it looks at the state). No other does: not with #8 or #5 (02, Ask 3), nor at 106 or 108
+-- (decision 79). D25-6 to the letter would store a greater number beside #8 too, where 6.2.7 has ended before: that is departed from, and
+-- an item has no word for it.
 abbrev pub isStored : Case → Bool
-isStored = isStoredBy checked isAcceptable
+isStored c = isStoredBy checked isAcceptable c || (isDone (checked c) && isSetup (isRejectedWith6 (c .phase)) (c .happening))
 
 -- SOFT TRIGGER, in any state but Idle
 abbrev pub disregards : Phase → List Item

@@ -18,8 +18,8 @@ use Rattle.rows.specs.Effects.{carriedAt}
 use Rattle.rows.specs.Page.{doneBy}
 use Rattle.rows.specs.Rules.{NewNumber, NoSlot, OldRerouting, Rule, Saying, Says1, Says2, Says6}
 use Rattle.rows.specs.Rules.{SaysAsCame, SaysNothing, SendsSetup, closed, dropping, ends, ofEither, ofIncumbent}
-use Rattle.rows.specs.Rules.{ofRerouting, plainly, refuses, retiring, starting, stays, stopping, switching, telling, to}
-use Rattle.rows.specs.Rules.{turnedAway, with}
+use Rattle.rows.specs.Rules.{ofRerouting, plainly, refuses, retiring, starting, stays, stopping, storing, switching, telling}
+use Rattle.rows.specs.Rules.{to, turnedAway, with}
 use Rattle.rows.specs.States.{Phase}
 use Rattle.rows.specs.declared.Class.{Class}
 use Rattle.rows.specs.declared.Class.the-variants.{CameComplete, CameNone, CameOther, CameOutside}
@@ -80,9 +80,10 @@ connectRow SoftInitiated role agreed = refuses NoMeaning SoftInitiated
 connectRow Awaiting role agreed = refuses NoMeaning Awaiting
 
 -- ---- setup (01, "Setup", rows 1 to 5; 6.2.7)
--- row 3; rows 1 and 2 are those of either end
+-- row 3: rejected, and its number is stored all the same (6.2.7; 02, Ask 3, in place of 01's sentence; decision 79); rows 1 and 2 are those
+-- of either end
 abbrev pub rejectedInProgress : Phase → Rule
-rejectedInProgress phase = rejects Says6 phase
+rejectedInProgress phase = storing (rejects Says6 phase)
 
 -- row 5: the older one is released on its own number, and then as row 4, a new rerouting connection (6.2.7.6; decision 11)
 abbrev pub initiatedAgain : Rule

@@ -55,7 +55,8 @@ softCrankback AlternateFound room =
 softCrankback NoAlternate room = backToIdle
 
 -- ---- a setup of the neighbour
--- what a rejected setup leaves: the record as it was (01, "Setup", 6.2.7; 6.3.5), for each reason
+-- a setup is rejected, for each reason: the call stays in its state with what it holds (01, "Setup", 6.2.7; 6.3.5). For the two reasons
+-- below it keeps the number on record too
 abbrev pub rejects : Saying → Phase → Rule
 rejects say phase = closed (Rejects say Section66) (stays phase)
 

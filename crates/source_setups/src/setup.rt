@@ -12,7 +12,7 @@ ghost use Rattle.rows.specs.Effects.{isNext, givenIn};
 ghost use Rattle.rows.specs.States.{phaseOf};
 ghost use Rattle.source_rows.specs.Rows.{atSource, setupIn, setupAsked};
 ghost use Rattle.source_rows.specs.Shared.{inCall};
-ghost use Rattle.source_setups.specs.Effects.{setupEffect};
+ghost use Rattle.source_setups.specs.Effects.{inProgressStored, setupEffect};
 use rows::Effect;
 use rows::State;
 use signal::Answer;
@@ -49,6 +49,24 @@ fn older_released(older: u16) -> Signal
     )
 }
 
+// Row 3: a reroute is in progress. The setup is rejected, and its number stored all the same.
+fn in_progress(state: State) -> Effect
+    ensures { λ r. ⌜ r ≡ inProgressStored state ⌝ }
+{
+    Effect {
+        answer: Answer::Done,
+        state: state,
+        gives: false,
+        stores: true,
+        signals: [
+            Signal::rejection(ReroutingCause::IN_PROGRESS),
+            Signal::NONE,
+            Signal::NONE,
+            Signal::NONE,
+        ],
+    }
+}
+
 fn setup_in(next: Fresh, state: State) -> Effect
     ensures { λ r. ⌜ r ≡ atSource state next NoCause (setupIn (phaseOf state) (isNext next)) ⌝ }
 {
@@ -60,10 +78,10 @@ fn setup_in(next: Fresh, state: State) -> Effect
                 Fresh::Spent => Effect::refused(Answer::NumbersSpent, state),
             }
         }
-        State::HardWaiting => Effect::rejected(ReroutingCause::IN_PROGRESS, state),
-        State::HardUnderway(_) => Effect::rejected(ReroutingCause::IN_PROGRESS, state),
-        State::SoftTriggered(_) => Effect::rejected(ReroutingCause::IN_PROGRESS, state),
-        State::SoftProceeding(_, _) => Effect::rejected(ReroutingCause::IN_PROGRESS, state),
+        State::HardWaiting => in_progress(state),
+        State::HardUnderway(_) => in_progress(state),
+        State::SoftTriggered(_) => in_progress(state),
+        State::SoftProceeding(_, _) => in_progress(state),
         State::SoftInitiated(i, r) => {
             match next {
                 Fresh::Next(n) => accepted(i, n, older_released(r)),

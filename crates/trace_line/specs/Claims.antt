@@ -41,17 +41,18 @@ ColumnsInOrder =
     (lineText Trace 20 allDifferent ≡ line (ascii "20 107 7 21 22 23"))
     × (lineText Watch 20 allDifferent ≡ line (ascii "20 107 7 21 22 23 24 -"))
 
--- what B13 leaves (01, "Bench run, calls by key 7"): Idle (4), record number 5, last number 4; a switch to 4, and a release of 3 with #4
+-- what B13 leaves (01, "Bench run, calls by key 7"; 02, Ask 3): Idle (4), record number 6, last number 4; a switch to 4, and a release of 3
+-- with #4
 abbrev pub afterB13 : Outcome
 afterB13 =
     record {
       answer = Done;
-      call = record { key = 7; hard = true; soft = Symmetric; state = Idle 4; last = 4; remote = 5 };
+      call = record { key = 7; hard = true; soft = Symmetric; state = Idle 4; last = 4; remote = 6 };
       signals = places (switchTo 4 ∷ releaseOf IncumbentRelease 3 (Numbered complete) ∷ []);
     }
 
 -- B13 as the thirteenth record: its line in the trace, and in the watch.
 abbrev pub LinesOfB13 : Type 0
 LinesOfB13 =
-    (lineText Trace 13 afterB13 ≡ line (ascii "13 0 1 4 0 5"))
-    × (lineText Watch 13 afterB13 ≡ line (ascii "13 0 1 4 0 5 4 switch 4, release incumbent 3 #4"))
+    (lineText Trace 13 afterB13 ≡ line (ascii "13 0 1 4 0 6"))
+    × (lineText Watch 13 afterB13 ≡ line (ascii "13 0 1 4 0 6 4 switch 4, release incumbent 3 #4"))

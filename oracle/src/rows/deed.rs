@@ -2,13 +2,14 @@
 
 use crate::call::{Call, Outcome};
 use crate::rows::terms::states;
+use crate::table::Request;
 use crate::vocabulary::{
-    Answer, CauseCode, Node, ReroutingCause, SentCause, Signal, SignalKind, Signals,
+    Answer, CauseCode, Event, Node, ReroutingCause, SentCause, Signal, SignalKind, Signals,
 };
 
-/// `refused N`, `stays: SIGNALS` or `to STATE: SIGNALS`. A refusal that changed or sent something
-/// is none of these.
-pub fn deed(node: Node, before: Call, after: &Outcome) -> String {
+/// `refused N`, `stays: SIGNALS`, `stays, number stored: SIGNALS` or `to STATE: SIGNALS`. A refusal
+/// that changed or sent something is none of these.
+pub fn deed(node: Node, before: Call, request: Request, after: &Outcome) -> String {
     let stays = after.call == before;
     let signals = signal_words(&after.signals);
     if after.answer != Answer::Done {
@@ -19,7 +20,19 @@ pub fn deed(node: Node, before: Call, after: &Outcome) -> String {
     if stays {
         return format!("stays: {signals}");
     }
+    if number_stored(before, request) == Some(after.call) {
+        return format!("stays, number stored: {signals}");
+    }
     format!("to {}: {signals}", states(node)[usize::from(after.call.state.number())])
+}
+
+/// The record with the setup's number, and all else as it was (02, Ask 3).
+fn number_stored(before: Call, request: Request) -> Option<Call> {
+    match request {
+        Request::Event(Event::Setup { number, .. }) => Some(Call { remote: number, ..before }),
+        Request::Event(_) => None,
+        Request::Opening(_) => None,
+    }
 }
 
 const NOTHING: &str = "nothing sent";

@@ -64,7 +64,7 @@ impl<'a> Tally<'a> {
         };
         let met = Met::before(self.node, &asked, table);
         let before = table.call(asked.key);
-        let done = deed(self.node, before, &table.meet(&asked));
+        let done = deed(self.node, before, asked.request, &table.meet(&asked));
         let list = self.list;
         let mut fitting = list.fitting(met);
         match (fitting.next(), fitting.next()) {

@@ -8,6 +8,7 @@ use super::list::List;
 use super::terms::Met;
 use super::{print, Made, Runs};
 use crate::call::Call;
+use crate::table::Request;
 use crate::vocabulary::Node;
 use crate::{cells, script};
 
@@ -61,7 +62,8 @@ fn cells_have_one_row(node: Node, list: &str) {
             let rows: Vec<usize> = list.fitting(met).collect();
             assert_eq!(rows.len(), 1, "{met}");
             let row = &list.rows[rows[0]];
-            assert_eq!(deed(node, call, &call.after(node, event)), row.done, "{}", row.name);
+            let done = deed(node, call, Request::Event(event), &call.after(node, event));
+            assert_eq!(done, row.done, "{}", row.name);
             met_rows[rows[0]] = true;
         }
     }
@@ -175,6 +177,26 @@ fn another_deed_than_the_list_has_is_told() {
     let expected = "rows: triggers: `to Soft Triggered: nothing sent`, the list has \
         `stays: nothing sent` (events: 1)";
     assert_eq!(told, [expected]);
+}
+
+/// A row says whether a rejected setup leaves the record as it was, or its number on it (02, Ask
+/// 3).
+#[test]
+fn number_stored_is_another_deed_than_none() {
+    let list = "opens; none; open; -; to Idle: nothing sent; 01\n\
+        triggers; Idle; trigger; -; to Soft Triggered: nothing sent; 01\n\
+        rejects; Soft Triggered; setup; -; stays: reject #6; 01\n";
+    let run = "open 7 hard symmetric\ntrigger 7\nsetup 7 clearing 1";
+    let told = counted(list, false, &scripted(run)).1;
+    let expected = "rows: rejects: `stays, number stored: reject #6`, the list has \
+        `stays: reject #6` (events: 1)";
+    assert_eq!(told, [expected]);
+    let amended = list.replace("stays: reject #6", "stays, number stored: reject #6");
+    assert_eq!(counted(&amended, true, &scripted(run)).1, [""; 0]);
+    let late = format!("{run}\nsetup 7 clearing 1");
+    let expected = "rows: rejects: `stays: reject #5`, the list has \
+        `stays, number stored: reject #6` (events: 1)";
+    assert_eq!(counted(&amended, true, &scripted(&late)).1, [expected]);
 }
 
 #[test]

@@ -151,7 +151,8 @@ fn connect_in_soft_proceeding(
 }
 
 /// A setup from the neighbour (01, "Setup", rows 1 and 2; 6.2.7). Meaning is tested before any
-/// rejection (01, 106; decisions 13 and 26), and each rejection before the number is stored.
+/// rejection (01, 106; decisions 13 and 26). The rejections #8 and #5 come before the number is
+/// stored, and leave the record as it was (02, Ask 3; decision 79).
 pub fn setup(call: Call, switchover: SwitchoverCode, number: u32) -> Outcome {
     if call.state == State::Null || call.soft != Soft::Symmetric {
         return call.refused(Answer::WithoutMeaning);
@@ -165,21 +166,23 @@ pub fn setup(call: Call, switchover: SwitchoverCode, number: u32) -> Outcome {
     soft_setup(call, number)
 }
 
-/// Rows 3 to 5 of 01, "Setup": the switchover code and the number stood the test.
+/// Rows 3 to 5 of 01, "Setup": the switchover code and the number stood the test. So the number is
+/// stored before the state is looked at, and a setup rejected with #6 leaves it on record (6.2.7;
+/// 02, Ask 3, which amends 01; decision 79). A setup that is refused stores nothing (01, 108).
 fn soft_setup(call: Call, number: u32) -> Outcome {
     match call.state {
         // Decision 26.
         State::Null => call.refused(Answer::WithoutMeaning),
         // Row 4; 6.2.7.1. The connect waits for "ready".
         State::ReroutingIdle { incumbent } => accepted(call, incumbent, number, SILENT),
-        // Row 3; 6.2.7.2.
-        HardRerouteTriggered => call.rejected(ReroutingCause::ALREADY_IN_PROGRESS),
-        // Row 3; 6.2.7.3.
-        HardRerouteProceeding { .. } => call.rejected(ReroutingCause::ALREADY_IN_PROGRESS),
-        // Row 3; 6.2.7.4.
-        State::SoftRerouteTriggered { .. } => call.rejected(ReroutingCause::ALREADY_IN_PROGRESS),
-        // Row 3; 6.2.7.5.
-        State::SoftRerouteProceeding { .. } => call.rejected(ReroutingCause::ALREADY_IN_PROGRESS),
+        // Row 3; 6.2.7.2; 02, Ask 3.
+        HardRerouteTriggered => call.rejected_in_progress(number),
+        // Row 3; 6.2.7.3; 02, Ask 3.
+        HardRerouteProceeding { .. } => call.rejected_in_progress(number),
+        // Row 3; 6.2.7.4; 02, Ask 3.
+        State::SoftRerouteTriggered { .. } => call.rejected_in_progress(number),
+        // Row 3; 6.2.7.5; 02, Ask 3.
+        State::SoftRerouteProceeding { .. } => call.rejected_in_progress(number),
         // Row 5; 6.2.7.6.
         State::SoftRerouteInitiated { incumbent, rerouting } => {
             accepted(call, incumbent, number, older_released(rerouting))

@@ -13,16 +13,16 @@ returns-3 : tie.Need-returns-3
 returns-3 c = simp (c .refused2 .ensures, c .before .before .before .before .state .given .1, c .before .enum-told2 .given .1)
 
 returns-4 : tie.Need-returns-4
-returns-4 c = simp (c .rejected .ensures, c .before .enum-told3 .given .1)
+returns-4 c = simp (c .in-progress .ensures, c .before .enum-told3 .given .1)
 
 returns-5 : tie.Need-returns-5
-returns-5 c = simp (c .rejected2 .ensures, c .before .enum-told4 .given .1)
+returns-5 c = simp (c .in-progress2 .ensures, c .before .enum-told4 .given .1)
 
 returns-6 : tie.Need-returns-6
-returns-6 c = simp (c .rejected3 .ensures, c .before .enum-told5 .given .1)
+returns-6 c = simp (c .in-progress3 .ensures, c .before .enum-told5 .given .1)
 
 returns-7 : tie.Need-returns-7
-returns-7 c = simp (c .rejected4 .ensures, c .before .enum-told6 .given .1)
+returns-7 c = simp (c .in-progress4 .ensures, c .before .enum-told6 .given .1)
 
 returns-8 : tie.Need-returns-8
 returns-8 c = simp (c .accepted2 .ensures, c .before .older-released .ensures, c .before .before .before .before .before .before .state2 .given .1, c .before .before .before .next2 .given .1)
