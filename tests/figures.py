@@ -71,11 +71,16 @@ def number(cell):
         return None
 
 
-def here(*more):
-    """Where and when this run measures, for a note."""
+def measured(*more):
+    """When this run measures, and with what, for a note."""
     kit = subprocess.run(["rt", "version"], capture_output=True, text=True, check=True).stdout.strip()
+    return ", ".join([datetime.date.today().isoformat(), kit, *more]) + "."
+
+
+def here(*more):
+    """The same, with where."""
     machine = f"x86-64 programs {'as they are' if NATIVE else 'under the emulator of the kit'} on {platform.machine()}"
-    return ", ".join([datetime.date.today().isoformat(), kit, *more, machine]) + "."
+    return measured(*more, machine)
 
 
 def here_with_rust():

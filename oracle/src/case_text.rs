@@ -19,13 +19,27 @@ const CONNECTED: &str = "7 1 2 1 4 0 4 5\n258 0 1 2 0 0 772 84281096\n0 0 0 0 0 
 const UNTOUCHED: &str = "7 1 2 5 3 4 4 5\n258 0 1 2 0 0 772 84281096\n";
 
 fn case(records: &[[u8; 20]], event: [u8; 16]) -> Vec<u8> {
-    let count = u16::try_from(records.len()).expect("a test has few records");
+    case_with_added(0, records, event)
+}
+
+/// The same case with its table not to be checked.
+fn unchecked_case(records: &[[u8; 20]], event: [u8; 16]) -> Vec<u8> {
+    case_with_added(32_768, records, event)
+}
+
+/// All the records follow, whatever is added to their count.
+fn case_with_added(added: u16, records: &[[u8; 20]], event: [u8; 16]) -> Vec<u8> {
+    let count = added + u16::try_from(records.len()).expect("a test has few records");
     [&count.to_be_bytes(), records.concat().as_slice(), &event].concat()
 }
 
 fn printed(input: &[u8]) -> String {
+    printed_at(Node::Source, input)
+}
+
+fn printed_at(node: Node, input: &[u8]) -> String {
     let mut out = Vec::new();
-    tables::print(Node::Source, input, &mut out).expect("a vector takes every byte");
+    tables::print(node, input, &mut out).expect("a vector takes every byte");
     String::from_utf8(out).expect("cases are printed in ASCII")
 }
 
@@ -70,6 +84,69 @@ fn count_runs_to_1100() {
     bad_behind_first_case(&[255, 255]);
 }
 
+/// With 32,768 added too: 1,100 records are good, 1,101 are bad though all of them follow.
+#[test]
+fn count_of_a_case_not_to_be_checked_runs_to_1100() {
+    for node in [Node::Source, Node::Destination] {
+        for count in [0, 1, 2, 64, 1_024, 1_025, 1_099, 1_100] {
+            let text = printed_at(node, &unchecked_case(&vec![EMPTY; count], OPENING));
+            let answer = if count == 0 { 104 } else { 0 };
+            assert!(text.starts_with(&format!("case 1 answer {answer} n {count} -\n")));
+            assert_eq!(text.lines().count(), 1 + count);
+        }
+        for count in [1_101, 1_102, 2_048, 32_767] {
+            let octets = unchecked_case(&vec![EMPTY; count], OPENING);
+            assert_eq!(printed_at(node, &octets), "bad\n", "{count}");
+        }
+    }
+    bad_behind_first_case(&unchecked_case(&[EMPTY; 1_101], OPENING));
+    // 1,101 with 32,768 and without, and the greatest count of either kind; cut short too.
+    for bad in [[132, 77], [4, 77], [127, 255], [255, 255]] {
+        bad_behind_first_case(&bad);
+    }
+}
+
+/// Of a fit table the same is printed, and of an unfit one what the lowest record makes of the
+/// event.
+#[test]
+fn cases_not_to_be_checked_are_printed_whole() {
+    let (_, text) = first_case();
+    let connected = unchecked_case(&[PROCEEDING, TRIGGERED, EMPTY], CONNECT);
+    assert_eq!(printed(&connected), text);
+    let unfit = [PROCEEDING, TRIGGERED, PROCEEDING, EMPTY];
+    let mut on_record = OPENING;
+    on_record[7] = 7;
+    let mut key_zero = CONNECT;
+    key_zero[7] = 0;
+    let events = [CONNECT, OPENING, on_record, key_zero].map(|event| unchecked_case(&unfit, event));
+    let behind = "7 1 2 5 3 4 4 5\n";
+    let text = [
+        "case 1 answer 0 n 4 switch 4, release incumbent 3 #4\n",
+        &format!("7 1 2 1 4 0 4 5\n258 0 1 2 0 0 772 84281096\n{behind}0 0 0 0 0 0 0 0\n"),
+        &format!("case 2 answer 0 n 4 -\n{UNTOUCHED}{behind}9 1 1 1 1 0 1 0\n"),
+        &format!("case 3 answer 103 n 4 -\n{UNTOUCHED}{behind}0 0 0 0 0 0 0 0\n"),
+        &format!("case 4 answer 102 n 4 -\n{UNTOUCHED}{behind}0 0 0 0 0 0 0 0\n"),
+    ];
+    assert_eq!(printed(&events.concat()), text.concat());
+    assert_eq!(printed_at(Node::Destination, &events.concat()), text.concat());
+}
+
+/// What one case says of the check holds for that case alone.
+#[test]
+fn each_case_says_whether_it_is_checked() {
+    let unfit = [PROCEEDING, PROCEEDING];
+    let (checked, unchecked) = (case(&unfit, OPENING), unchecked_case(&unfit, OPENING));
+    let text = printed(&[checked.clone(), unchecked.clone(), checked, unchecked].concat());
+    let cases: Vec<&str> = text.lines().filter(|line| line.starts_with("case ")).collect();
+    let expected = [
+        "case 1 answer 101 n 2 -",
+        "case 2 answer 104 n 2 -",
+        "case 3 answer 101 n 2 -",
+        "case 4 answer 104 n 2 -",
+    ];
+    assert_eq!(cases, expected);
+}
+
 #[test]
 fn case_cut_short_is_bad() {
     let (octets, text) = first_case();
@@ -77,9 +154,14 @@ fn case_cut_short_is_bad() {
         bad_behind_first_case(&octets[..kept]);
     }
     assert_eq!(printed(&octets), text);
-    let none = case(&[], OPENING);
-    for kept in 1..none.len() {
-        bad_behind_first_case(&none[..kept]);
+    let unchecked = unchecked_case(&[PROCEEDING, EMPTY], OPENING);
+    for kept in 1..unchecked.len() {
+        bad_behind_first_case(&unchecked[..kept]);
+    }
+    for none in [case(&[], OPENING), unchecked_case(&[], OPENING)] {
+        for kept in 1..none.len() {
+            bad_behind_first_case(&none[..kept]);
+        }
     }
 }
 
@@ -91,21 +173,25 @@ fn values_of_records_that_are_not_named_are_bad() {
             for place in 0..3 {
                 let mut records = [PROCEEDING, TRIGGERED, EMPTY];
                 records[place][octet] = value;
-                let text = printed(&case(&records, OPENING));
-                assert_eq!(text == "bad\n", value >= lowest, "{octet} {value} {place}");
+                for octets in [case(&records, OPENING), unchecked_case(&records, OPENING)] {
+                    let bad = printed(&octets) == "bad\n";
+                    assert_eq!(bad, value >= lowest, "{octet} {value} {place}");
+                }
             }
         }
     }
 }
 
-/// A bad event is bad over an unfit table too, and for key 0 (decision 23).
+/// A bad event is bad over an unfit table too, checked or not, and for key 0 (decision 23).
 #[test]
 fn bad_event_comes_before_every_check() {
     let mut event = CONNECT;
     event[1] = 2;
     bad_behind_first_case(&case(&[PROCEEDING, PROCEEDING], event));
+    bad_behind_first_case(&unchecked_case(&[PROCEEDING, PROCEEDING], event));
     event[7] = 0;
     bad_behind_first_case(&case(&[], event));
+    bad_behind_first_case(&unchecked_case(&[], event));
 }
 
 #[test]

@@ -95,6 +95,8 @@ mod table_run;
 #[cfg(test)]
 mod trace_text;
 #[cfg(test)]
+mod unchecked_tables;
+#[cfg(test)]
 mod unnamed_services;
 
 use std::env;

@@ -4,6 +4,9 @@
 //! for an event 101, 102, 105 and then those of the call on record, 106 to 108. After a refusal
 //! nothing has changed and no signal is sent. Everything is searched in the plainest way, place by
 //! place.
+//!
+//! The check for 101 alone may be left out (docs/TABLES.md, "Not to be checked"): the others are
+//! then made as ever, and what else an unfit record holds is taken as it stands.
 
 use crate::call::{Call, Services, State};
 use crate::vocabulary::{Answer, Event, Node, Signals, SILENT};
@@ -33,19 +36,26 @@ impl Reply {
     }
 }
 
-/// Carries out what is asked under a key at that end; openings are the same at both (decision 61).
+/// Carries out what is asked under a key at that end. An unfit table is 101, whatever is asked.
 pub fn meet(node: Node, table: &mut [Call], key: u32, request: Request) -> Reply {
+    if unfit(table) {
+        return Reply::refused(Answer::TableUnfit);
+    }
+    meet_unchecked(node, table, key, request)
+}
+
+/// The same where the table is not checked, so that nothing is 101, whatever the table holds.
+/// Openings are the same at both ends (decision 61).
+pub fn meet_unchecked(node: Node, table: &mut [Call], key: u32, request: Request) -> Reply {
     match request {
         Request::Opening(named) => open(table, key, named),
         Request::Event(event) => event_on_record(node, table, key, event),
     }
 }
 
-/// An opening: 101, 102, 103, 104 (decision 14), or the lowest empty record is taken.
+/// An opening: 102, 103, 104 (decision 14), or the lowest empty record is taken. Key 0 marks it;
+/// what else an unfit one holds is gone with the opening.
 fn open(table: &mut [Call], key: u32, named: Option<Services>) -> Reply {
-    if unfit(table) {
-        return Reply::refused(Answer::TableUnfit);
-    }
     if key == 0 {
         return Reply::refused(Answer::KeyZero);
     }
@@ -62,12 +72,10 @@ fn open(table: &mut [Call], key: u32, named: Option<Services>) -> Reply {
     }
 }
 
-/// An event: 101, 102, 105, or what the call on record makes of it. A call that reaches Null comes
-/// back as an empty record, and one that refuses as it was.
+/// An event: 102, 105, or what the call on record makes of it, the lowest where an unfit table has
+/// more with that key. A call that reaches Null comes back as an empty record, and one that refuses
+/// as it was.
 fn event_on_record(node: Node, table: &mut [Call], key: u32, event: Event) -> Reply {
-    if unfit(table) {
-        return Reply::refused(Answer::TableUnfit);
-    }
     if key == 0 {
         return Reply::refused(Answer::KeyZero);
     }

@@ -2,7 +2,7 @@
 //! of 01, and the order of the checks where two apply.
 
 use crate::call::{Call, Soft, State};
-use crate::table::{meet, Request, CAUSES_OF_UNFITNESS};
+use crate::table::{meet, meet_unchecked, Reply, Request, CAUSES_OF_UNFITNESS};
 use crate::vocabulary::{Crankback, DomainRelease, Event, Node, Policy, SwitchoverCode, SILENT};
 
 const OPENING: Request = Request::Opening(None);
@@ -17,6 +17,8 @@ const RELEASE_9: Request = Request::Event(Event::FromDomain(DomainRelease {
 }));
 
 const MANY: u16 = u16::MAX;
+
+const NODES: [Node; 2] = [Node::Source, Node::Destination];
 
 fn call(key: u32, state: State, last: u16) -> Call {
     Call { key, hard: true, soft: Soft::Symmetric, state, last, remote: 0 }
@@ -34,21 +36,32 @@ fn idle_calls(count: u32) -> Vec<Call> {
 fn answer_at(node: Node, table: &[Call], key: u32, request: Request) -> u8 {
     let mut after = table.to_vec();
     let reply = meet(node, &mut after, key, request);
-    if reply.answer.number() != 0 {
-        assert_eq!((after.as_slice(), reply.signals), (table, SILENT), "{key} {request:?}");
-    }
+    refusal_changes_nothing(table, &after, reply);
     reply.answer.number()
+}
+
+fn answer_unchecked(node: Node, table: &[Call], key: u32, request: Request) -> u8 {
+    let mut after = table.to_vec();
+    let reply = meet_unchecked(node, &mut after, key, request);
+    refusal_changes_nothing(table, &after, reply);
+    reply.answer.number()
+}
+
+fn refusal_changes_nothing(before: &[Call], after: &[Call], reply: Reply) {
+    if reply.answer.number() != 0 {
+        assert_eq!((after, reply.signals), (before, SILENT), "{:?}", reply.answer);
+    }
 }
 
 /// Where both ends must answer alike.
 fn answer(table: &[Call], key: u32, request: Request) -> u8 {
-    let [source, destination] =
-        [Node::Source, Node::Destination].map(|node| answer_at(node, table, key, request));
+    let [source, destination] = NODES.map(|node| answer_at(node, table, key, request));
     assert_eq!(source, destination, "{key} {request:?}");
     source
 }
 
-/// The table is unfit for that cause and no other, and 101 comes before every other answer.
+/// The table is unfit for that cause and no other, and 101 comes before every other answer. Where
+/// the table is not checked, 101 does not come at all (docs/TABLES.md).
 fn unfit_alone(cause: usize, table: &[Call]) {
     for (number, applies) in CAUSES_OF_UNFITNESS.iter().enumerate() {
         assert_eq!(applies(table), number == cause, "cause {number} of {:?}", table.first());
@@ -56,6 +69,9 @@ fn unfit_alone(cause: usize, table: &[Call]) {
     for key in [0, 1, 7, 9_999] {
         for request in [OPENING, TRIGGER, PATH_FOUND, READY, CONNECT_9, RELEASE_9] {
             assert_eq!(answer(table, key, request), 101, "{key} {request:?}");
+            for node in NODES {
+                assert_ne!(answer_unchecked(node, table, key, request), 101, "{key} {request:?}");
+            }
         }
     }
 }

@@ -15,8 +15,26 @@ pub const RECORD_OCTETS: usize = 20;
 /// The most records of a case: more than a fit table has, so that 101 is seen.
 pub const MOST_RECORDS_OF_A_CASE: u16 = 1_100;
 
+/// Added to the count of records where the table is not to be checked.
+const NOT_TO_BE_CHECKED: u16 = 32_768;
+
+/// Whether the table of a case is checked for the causes of 101 before it meets the event.
+#[derive(Clone, Copy, Debug, PartialEq, Eq)]
+enum FitnessCheck {
+    Made,
+    /// Nothing is answered 101, whatever the table holds.
+    LeftOut,
+}
+
+/// What the first two octets of a case say.
+struct Count {
+    records: u16,
+    check: FitnessCheck,
+}
+
 /// A table and the event that it meets.
 struct Case {
+    check: FitnessCheck,
     table: Vec<Call>,
     event: EventRecord,
 }
@@ -32,8 +50,12 @@ pub fn print(node: Node, cases: impl BufRead, out: &mut impl Write) -> Result<()
 }
 
 fn print_case(node: Node, number: u64, case: Case, out: &mut impl Write) -> Result<()> {
-    let Case { mut table, event } = case;
-    let reply = table::meet(node, &mut table, event.key, event.request);
+    let Case { check, mut table, event } = case;
+    let meet = match check {
+        FitnessCheck::Made => table::meet,
+        FitnessCheck::LeftOut => table::meet_unchecked,
+    };
+    let reply = meet(node, &mut table, event.key, event.request);
     let (answer, signals) = (reply.answer.number(), SignalWords(&reply.signals));
     writeln!(out, "case {number} answer {answer} n {} {signals}", table.len())?;
     for call in &table {
@@ -45,19 +67,26 @@ fn print_case(node: Node, number: u64, case: Case, out: &mut impl Write) -> Resu
 /// The case whose count begins with that octet, or nothing where it is `bad`.
 fn case_after(node: Node, first: u8, input: &mut impl Read) -> Result<Option<Case>> {
     let Some([second]) = octets(input)? else { return Ok(None) };
-    let count = u16::from_be_bytes([first, second]);
-    if count > MOST_RECORDS_OF_A_CASE {
-        return Ok(None);
-    }
-    let mut table = Vec::with_capacity(usize::from(count));
-    for _ in 0..count {
+    let Some(Count { records, check }) = count([first, second]) else { return Ok(None) };
+    let mut table = Vec::with_capacity(usize::from(records));
+    for _ in 0..records {
         match octets(input)?.and_then(record) {
             Some(call) => table.push(call),
             None => return Ok(None),
         }
     }
     let event = octets(input)?.and_then(|octets| decode(node, &octets));
-    Ok(event.map(|event| Case { table, event }))
+    Ok(event.map(|event| Case { check, table, event }))
+}
+
+/// Nothing where there are too many records: the bound is the same with and without the check.
+fn count(octets: [u8; 2]) -> Option<Count> {
+    let number = u16::from_be_bytes(octets);
+    let count = match number.checked_sub(NOT_TO_BE_CHECKED) {
+        Some(records) => Count { records, check: FitnessCheck::LeftOut },
+        None => Count { records: number, check: FitnessCheck::Made },
+    };
+    (count.records <= MOST_RECORDS_OF_A_CASE).then_some(count)
 }
 
 /// One record, or nothing where a value is not named. A connection that the state does not hold is

@@ -1,11 +1,11 @@
 // The records of a case, given to the entries that are under test: 64 of them to the one by value, any other number to the one that they
-// are lent to.
+// are lent to; and those of a case that is not to be checked, whatever their number, to the one that makes no check.
 ghost use Prim.Native.Nat.{_≤_};
 ghost use mathlib.Core.Path.{_≡_};
 ghost use mathlib.Core.List.{_++_};
 ghost use lib.ListN.{take, drop};
 ghost use Rattle.call.specs.Events.{halfOf};
-ghost use Rattle.call_table.specs.Table.{ranOf, tableOf};
+ghost use Rattle.call_table.specs.Table.{ranOf, tableOf, ranFitOf, tableFitOf};
 use call::Call;
 use call_table::Done;
 use events::NodeAct;
@@ -26,9 +26,28 @@ fn handle_first(table: [Call; 1100], count: usize, key: u32, asked: NodeAct) -> 
     Held { table: t, done }
 }
 
-pub(crate) fn handle(table: [Call; 1100], count: usize, key: u32, asked: NodeAct) -> Held
+fn handle_fit_first(table: [Call; 1100], count: usize, key: u32, asked: NodeAct) -> Held
+    requires { ⌜ count ≤ 1100 ⌝ }
+    ensures { λ r. ⌜ (r .done ≡ ranFitOf (halfOf (asked .node)) (take count table) key (asked .act) .done)
+        × (r .table ≡ tableFitOf (halfOf (asked .node)) (take count table) key (asked .act) ++ drop count table) ⌝ }
+{
+    let mut t = table;
+    let done = call_table::handle_fit(&mut t[..count], key, asked);
+    Held { table: t, done }
+}
+
+pub(crate) fn handle(
+    checked: bool,
+    table: [Call; 1100],
+    count: usize,
+    key: u32,
+    asked: NodeAct,
+) -> Held
     requires { ⌜ count ≤ 1100 ⌝ }
 {
+    if !checked {
+        return handle_fit_first(table, count, key, asked);
+    }
     if count == 64 {
         let sixty = call_table::handle64(narrowed(table), key, asked);
         let kept = sixty.table;

@@ -1,8 +1,9 @@
 // Cases from standard input, a table of an end's calls and an event each, and what becomes of each, printed (docs/TABLES.md): the programs
 // `tables` and `destination_tables`.
 //
-// `call_table::handle` decides every case, on exactly as many records as the case has, and `handle64` those of 64; the rest is reading
-// and printing. `octets` reads a case, `first` gives its records to the entry, and `print` says what came of it.
+// `call_table::handle` decides every case, on exactly as many records as the case has, `handle64` those of 64, and `handle_fit` those that
+// are not to be checked; the rest is reading and printing. `octets` reads a case, `first` gives its records to the entry, and `print` says
+// what came of it.
 mod first;
 mod octets;
 mod print;
@@ -13,6 +14,9 @@ use event_record::Request;
 use events::Node;
 use events::NodeAct;
 use libc::STDIN_FILENO;
+
+// Added to the count of a case whose table is not to be checked.
+const UNCHECKED: usize = 32768;
 
 // A loop has to end, and nothing says that the input does: so the cases are counted, up to a number that no run reaches.
 pub fn serve(node: Node) {
@@ -31,15 +35,16 @@ fn answer(node: Node, number: u64, body: &mut [u8]) -> bool {
     if got == 0 {
         return false;
     }
-    let count = octets::short(&head, 0) as usize;
+    let said = octets::short(&head, 0) as usize;
+    let count = said % UNCHECKED;
     if got < 2 || 1100 < count {
         return print::bad();
     }
-    answer_rest(node, number, count, body)
+    answer_rest(node, number, said < UNCHECKED, count, body)
 }
 
 // The rest of a case: its records and its event, whole.
-fn answer_rest(node: Node, number: u64, count: usize, body: &mut [u8]) -> bool
+fn answer_rest(node: Node, number: u64, checked: bool, count: usize, body: &mut [u8]) -> bool
     requires { ⌜ count ≤ 1100 ⌝ }
 {
     let size = count * 20 + 16;
@@ -49,10 +54,10 @@ fn answer_rest(node: Node, number: u64, count: usize, body: &mut [u8]) -> bool
     if io::read_full(STDIN_FILENO, &mut body[..size]) < size {
         return print::bad();
     }
-    answer_body(node, number, count, body)
+    answer_body(node, number, checked, count, body)
 }
 
-fn answer_body(node: Node, number: u64, count: usize, body: &[u8]) -> bool
+fn answer_body(node: Node, number: u64, checked: bool, count: usize, body: &[u8]) -> bool
     requires { ⌜ (count ≤ 1100) × (count * 20 + 16 ≤ length (now body)) ⌝ }
 {
     let records = octets::records(body, count);
@@ -65,7 +70,7 @@ fn answer_body(node: Node, number: u64, count: usize, body: &[u8]) -> bool
     match request {
         Request::Bad => print::bad(),
         Request::Asks(act) => {
-            let held = first::handle(table, count, event.key, NodeAct { node, act });
+            let held = first::handle(checked, table, count, event.key, NodeAct { node, act });
             print::table(number, count, held)
         }
     }

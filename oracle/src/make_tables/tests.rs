@@ -1,14 +1,16 @@
 //! What made cases promise: fit tables are fit, each damage is its own cause of 101, cases are bad
 //! where and only where that is asked; and what the table promises over all of them.
 
+use std::collections::BTreeSet;
+
 use super::bad::WAY_COUNT;
 use super::events::event;
 use super::records::{Damage, MadeTable, DAMAGES};
-use super::{maker, record_count, table};
+use super::{case, maker, record_count, table};
 use crate::call::Call;
 use crate::draw::Draw;
-use crate::event_record::decode;
-use crate::table::{meet, unfit, Request, CAUSES_OF_UNFITNESS};
+use crate::event_record::{decode, EventRecord};
+use crate::table::{meet, meet_unchecked, unfit, Reply, Request, CAUSES_OF_UNFITNESS};
 use crate::tables;
 use crate::vocabulary::{Answer, Node, SILENT};
 
@@ -98,8 +100,22 @@ fn changed_places(before: &[Call], after: &[Call]) -> Vec<usize> {
     (0..before.len()).filter(|&place| before[place] != after[place]).collect()
 }
 
-/// A refusal changes nothing and sends nothing. What is done leaves a fit table fit and changes one
-/// record at most: the lowest empty one for an opening, the one with the key for another event.
+/// A refusal changes nothing and sends nothing. What is done changes one record at most: the lowest
+/// empty one for an opening, the lowest one with the key for another event.
+fn changes_one_record_at_most(before: &[Call], after: &[Call], asked: EventRecord, reply: Reply) {
+    let changed = changed_places(before, after);
+    if reply.answer != Answer::Done {
+        assert_eq!((changed, reply.signals), (vec![], SILENT), "{asked:?}");
+        return;
+    }
+    let opening = matches!(asked.request, Request::Opening(_));
+    let met = if opening { 0 } else { asked.key };
+    let place = before.iter().position(|call| call.key == met);
+    assert!(changed.is_empty() && !opening || changed.first().copied() == place, "{asked:?}");
+    assert!(changed.len() <= 1, "{asked:?}");
+}
+
+/// What is done leaves a fit table fit.
 #[test]
 fn table_promises_hold_over_made_cases() {
     NODES.into_iter().for_each(table_promises);
@@ -113,17 +129,55 @@ fn table_promises(node: Node) {
         let asked = decode(node, &event(node, &mut draw, &table)).expect("a made event is not bad");
         let mut after = table.calls.clone();
         let reply = meet(node, &mut after, asked.key, asked.request);
-        let changed = changed_places(&table.calls, &after);
-        if reply.answer != Answer::Done {
-            assert_eq!((changed, reply.signals), (vec![], SILENT), "{asked:?}");
-            continue;
+        changes_one_record_at_most(&table.calls, &after, asked, reply);
+        if reply.answer == Answer::Done {
+            assert!(!unfit(&table.calls) && !unfit(&after), "{asked:?}");
         }
-        let opening = matches!(asked.request, Request::Opening(_));
-        let met = if opening { 0 } else { asked.key };
-        let place = table.calls.iter().position(|call| call.key == met);
-        assert!(!unfit(&table.calls) && !unfit(&after), "{asked:?}");
-        assert!(changed.is_empty() && !opening || changed.first().copied() == place, "{asked:?}");
-        assert!(changed.len() <= 1, "{asked:?}");
+        unchecked_table_promises(node, &table.calls, asked, (reply, after));
+    }
+}
+
+/// Nothing is 101, and a fit table gives what it gives where it is checked (docs/TABLES.md).
+fn unchecked_table_promises(
+    node: Node,
+    before: &[Call],
+    asked: EventRecord,
+    checked: (Reply, Vec<Call>),
+) {
+    let mut after = before.to_vec();
+    let reply = meet_unchecked(node, &mut after, asked.key, asked.request);
+    changes_one_record_at_most(before, &after, asked, reply);
+    assert_ne!(reply.answer, Answer::TableUnfit, "{asked:?}");
+    if !unfit(before) {
+        assert_eq!((reply, after), checked, "{asked:?}");
+    }
+}
+
+/// The number of the answer that a single case prints.
+fn answer_printed(text: &str) -> &str {
+    text.split(' ').nth(3).expect("a case that is not bad prints its answer")
+}
+
+/// With 32,768 added to its count, a case that was answered 101 has any other answer, and every
+/// other case prints the same.
+#[test]
+fn made_cases_are_answered_unchecked_too() {
+    for node in NODES {
+        let mut draw = Draw::from_seed(4);
+        let mut answers = BTreeSet::new();
+        for _ in 0..10_000 {
+            let mut octets = case(node, &mut draw).octets();
+            let checked = printed(node, &octets);
+            octets[0] += 128;
+            let unchecked = printed(node, &octets);
+            if answer_printed(&checked) == "101" {
+                answers.insert(answer_printed(&unchecked).to_string());
+            } else {
+                assert_eq!(unchecked, checked);
+            }
+        }
+        let expected = ["0", "102", "103", "104", "105", "106", "107", "108"];
+        assert_eq!(answers.iter().collect::<Vec<&String>>(), expected, "{node:?}");
     }
 }
 

@@ -1,6 +1,7 @@
-//! The checked entry over a row of records, as crates/call_table and crates/distinct have it: one
-//! reading of the records, which copies the keys beside them; the keys along chains of 1,024 slots;
-//! then the decision, and one record put back.
+//! The entries over a row of records, as crates/call_table and crates/distinct have them. The
+//! checked one: one reading of the records, which copies the keys beside them; the keys along
+//! chains of 1,024 slots; then the decision, and one record put back. The other: the keys alone are
+//! read, up to the record with the key.
 
 use crate::call::{Call, Outcome, Services, State};
 use crate::vocabulary::{Answer, Event, Node, Signals, SILENT};
@@ -40,12 +41,22 @@ pub fn meet(node: Node, table: &mut [Call], key: u32, request: Request) -> Reply
     if !(table.len() <= MOST_RECORDS && distinct(&keys[..table.len()]) && seen.sound) {
         return refused(Answer::TableUnfit);
     }
+    decide(node, table, &seen, key, request)
+}
+
+/// The entry without the check of the table.
+pub fn meet_unchecked(node: Node, table: &mut [Call], key: u32, request: Request) -> Reply {
+    let seen = look(table, key);
+    decide(node, table, &seen, key, request)
+}
+
+fn decide(node: Node, table: &mut [Call], seen: &Seen, key: u32, request: Request) -> Reply {
     if key == 0 {
         return refused(Answer::KeyZero);
     }
     match request {
-        Request::Opening(named) => open(table, &seen, key, named),
-        Request::Event(event) => event_on_record(node, table, &seen, event),
+        Request::Opening(named) => open(table, seen, key, named),
+        Request::Event(event) => event_on_record(node, table, seen, event),
     }
 }
 
@@ -71,6 +82,24 @@ fn put(table: &mut [Call], place: usize, outcome: Outcome) -> Reply {
 
 fn refused(answer: Answer) -> Reply {
     Reply { answer, signals: SILENT }
+}
+
+/// The keys alone, up to the one that is sought; for key 0 none.
+fn look(table: &[Call], key: u32) -> Seen {
+    let mut seen = Seen { sound: true, found: None, free: None };
+    if key == 0 {
+        return seen;
+    }
+    for (place, call) in table.iter().enumerate() {
+        if call.key == key {
+            seen.found = Some(place);
+            return seen;
+        }
+        if seen.free.is_none() && call.key == 0 {
+            seen.free = Some(place);
+        }
+    }
+    seen
 }
 
 /// One reading: each record once, its key into the array.

@@ -1,0 +1,143 @@
+"""What an entry of the table reads of the lent row, from what the compiled program does: its loads, as seen_run sees them.
+
+An entry reads between the time when the row is filled and the return of `call_table::decide_fit`, which every entry
+calls once, behind its reading. Where the row lies is told by the records that are put back: an event that is accepted
+at the next place stores a record's size further on.
+"""
+import dataclasses
+import struct
+
+from counting import fail
+from event_cases import IDLE, OPENING, RECORD, TRIGGER, at_random, record
+from seen_run import Run
+
+UNCHECKED = 32768  # docs/TABLES.md: added to the count of a case, it asks for the entry without the check
+DECIDES = "call_table::decide_fit"
+KEY = 4  # octets of a key, with which a record begins
+PUT = 64  # a record is put back among so many stores behind the decision
+FRONT, MIDDLE, END, ABSENT, ZERO = "at the front", "in the middle", "at the end", "absent", "0"
+
+# what is asked, where its key stands, where the empty record stands, and the answer
+ASKED = [
+    *((OPENING, ABSENT, empty, 0) for empty in (FRONT, MIDDLE, END)),
+    (OPENING, ABSENT, ABSENT, 104),
+    *((OPENING, key, ABSENT, 103) for key in (FRONT, MIDDLE, END)),
+    (OPENING, ZERO, END, 102),
+    *((TRIGGER, key, ABSENT, 0) for key in (FRONT, MIDDLE, END)),
+    (TRIGGER, ABSENT, ABSENT, 105),
+    (TRIGGER, ZERO, END, 102),
+]
+
+
+def name(asked):
+    kind, key, empty, answer = asked
+    what = "opening" if kind == OPENING else "event"
+    if kind == OPENING and key == ABSENT:
+        told = "no record empty" if empty == ABSENT else f"the empty record {empty}"
+    else:
+        told = f"key {key}"
+    return f"{what}, {told}" + (f": {answer}" if answer else "")
+
+
+def case_of(asked, count, unchecked):
+    """In octets. The keys are random; one more than there are records is the absent one."""
+    kind, key_at, empty_at, _ = asked
+    places = {FRONT: 0, MIDDLE: count // 2, END: count - 1}
+    *keys, absent = at_random(count + 1)
+    records = [record(key, IDLE) for key in keys]
+    if empty_at in places:
+        records[places[empty_at]] = bytes(RECORD)
+    key = keys[places[key_at]] if key_at in places else {ABSENT: absent, ZERO: 0}[key_at]
+    return head(count, unchecked) + b"".join(records) + event(kind, key)
+
+
+def accepted_at(place, count, unchecked):
+    keys = at_random(count)
+    return head(count, unchecked) + b"".join(record(key, IDLE) for key in keys) + event(TRIGGER, keys[place])
+
+
+def head(count, unchecked):
+    return struct.pack(">H", count + UNCHECKED * unchecked)
+
+
+def event(kind, key):
+    return struct.pack(">BxxxI8x", kind, key)
+
+
+@dataclasses.dataclass(frozen=True)
+class Row:
+    """Where the records lie."""
+    start: int
+    record: int
+    count: int
+
+    def holds(self, at, size):
+        return self.start < at + size and at < self.start + self.record * self.count
+
+
+class Reading:
+    """One call over a row: the loads of it and the instructions before the decision has returned, and the first stores behind that."""
+
+    def __init__(self, program, octets, row=Row(0, 0, 0)):
+        self.row, self.loads, self.instructions, self.stores, self.decisions, self.decided = row, [], 0, [], 0, False
+        self.run = Run(program, octets, self.load, self.store, self.step)
+        self.run.at(program.place(DECIDES), self.deciding)
+        self.printed = self.run.go()
+        if self.decisions != 1:
+            fail(f"{program.path}: {DECIDES} was seen {self.decisions} times, not once")
+
+    def deciding(self):
+        self.decisions += 1
+        self.run.on_return(self.returned)
+
+    def returned(self):
+        self.decided = True
+
+    def step(self):
+        self.instructions += not self.decided
+
+    def load(self, at, size):
+        if not self.decided and self.row.holds(at, size):
+            self.loads.append((at, size))
+
+    def store(self, at, size):
+        if self.decided:
+            self.stores += [(at, size)] * (len(self.stores) < PUT)
+        elif self.row.holds(at, size) and not self.decisions:  # it is still being filled
+            self.loads.clear()
+            self.instructions = 0
+
+    def visits(self):
+        """For each time that a record is read, loads of one record in a row being one time: whether more than its key was loaded."""
+        row, found, last = self.row, [], None
+        for at, size in self.loads:
+            for place in range((at - row.start) // row.record, (at + size - 1 - row.start) // row.record + 1):
+                if place != last:
+                    found.append(False)
+                    last = place
+                found[-1] |= at + size > row.start + place * row.record + KEY
+        return found
+
+
+def row_of(program, count, unchecked):
+    """Where the row lies in this program, for cases of so many records."""
+    stores = [Reading(program, accepted_at(place, count, unchecked)).stores for place in (0, 1, count - 1)]
+    apart = [(first, second[0] - first[0], last[0] - first[0]) for first, second, last in zip(*stores) if first != second]
+    start = min((at for (at, _), *_ in apart), default=0)
+    size = max((at + size for (at, size), *_ in apart), default=0) - start
+    if not apart or any((step, far) != (size, size * (count - 1)) for _, step, far in apart):
+        fail(f"{program.path}: where a record is put back does not tell where the row of {count} lies: {apart[:4]}")
+    return Row(start, size, count)
+
+
+def reads(program, count, unchecked):
+    """By what is asked: how many records are read, of how many more than the key, and the instructions meanwhile."""
+    row = row_of(program, count, unchecked)
+    found = {}
+    for asked in ASKED:
+        reading = Reading(program, case_of(asked, count, unchecked), row)
+        if not reading.printed.startswith(f"case 1 answer {asked[3]} n {count} "):
+            fail(f"{name(asked)}, {count} records: it prints {reading.printed[:60]!r}, and the answer {asked[3]} is expected")
+        visits = reading.visits()
+        found[name(asked)] = (len(visits), sum(visits), reading.instructions)
+    return found
