@@ -1,6 +1,7 @@
 pub mod Shape
 pub mod Keys
 pub mod Search
+pub mod Stopped
 pub mod Decided
 pub mod Fit
 pub mod Stored

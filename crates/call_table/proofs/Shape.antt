@@ -1,13 +1,18 @@
 -- The record of this crate's table and its key, and what the walks pass, as the walks of lent take them. Assumes nothing.
 use mathlib.Core.Path.{refl}
 use mir.Syntax.{w64}
-use Rattle.lent.proofs.Record.{Plain, uint, Row, struct, Field, Key, part-is}
+use denote.Enum.Laws as EL
+use Rattle.lent.proofs.Record.{Plain, uint, Row, struct, enum, Field, Key, Answer, part-is}
+use Rattle.call.specs.Record.{emptied}
 use Rattle.call.proofs.Call as Call
 use Rattle.call.proofs.Call.Laws as Call′
 use Rattle.events.proofs.NodeAct as NodeAct
 use Rattle.events.proofs.NodeAct.Laws as NodeAct′
-use Rattle.call_table.proofs.Sought as Sought
-use Rattle.call_table.proofs.Sought.Laws as Sought′
+use Rattle.call_table.specs.declared.Found.the-variants.{At, Nothing}
+use Rattle.call_table.proofs.Found as Found
+use Rattle.call_table.proofs.Found.Laws as Found′
+use Rattle.call_table.proofs.Places as Places
+use Rattle.call_table.proofs.Places.Laws as Places′
 use Rattle.call_table.proofs.Seen as Seen
 use Rattle.call_table.proofs.Seen.Laws as Seen′
 use Rattle.call_table.proofs.Done as Done
@@ -25,8 +30,21 @@ key = record { at = 0; offset = _; there = refl; of = λ c. c .key; value = λ c
 abbrev pub asked : Plain
 asked = struct (record { type = NodeAct.the-type; laws = NodeAct′.the-laws; copy = NodeAct′.the-copy; plain = NodeAct′.the-plain })
 
-abbrev pub sought : Plain
-sought = struct (record { type = Sought.the-type; laws = Sought′.the-laws; copy = Sought′.the-copy; plain = Sought′.the-plain })
+-- a record and its place, or none
+abbrev pub found : Answer row
+found = record {
+  any = emptied;
+  plain = enum Found.the-type Found′.the-laws Found′.the-copy Found′.the-plain tt;
+  hit = At;
+  none = Nothing;
+  hit-value = λ i c. refl;
+  none-value = refl;
+  hit-is = λ i c gi gc. EL.owes Found.the-type Found′.the-laws (At i c) ((refl, gi), (gc, tt));
+  none-is = EL.owes Found.the-type Found′.the-laws Nothing tt;
+}
+
+abbrev pub places : Plain
+places = struct (record { type = Places.the-type; laws = Places′.the-laws; copy = Places′.the-copy; plain = Places′.the-plain })
 
 abbrev pub seen : Plain
 seen = struct (record { type = Seen.the-type; laws = Seen′.the-laws; copy = Seen′.the-copy; plain = Seen′.the-plain })

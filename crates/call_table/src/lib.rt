@@ -1,8 +1,8 @@
 // The table of calls, lent as a row of records, at either end: openings and events by key, with the refusals 101 to 105 before the record's
 // own. The two ends have a table each; which end a row of records is of, its caller says with each act.
 //
-// Few thin functions touch the lent row (survey, put, handle, look, handle_fit) and one the row by value (handle64): each is an instance of
-// a walk of the crate lent. All that they decide, covered code decides on plain values.
+// Few thin functions touch the lent row (survey, put, handle, look, fetch, handle_fit) and one the row by value (handle64): each is an
+// instance of a walk of the crate lent. All that they decide, covered code decides on plain values.
 ghost use mathlib.Core.Path.{_≡_};
 ghost use lib.Dec.{eqb};
 ghost use Rattle.call.specs.Events.{halfOf};
@@ -13,9 +13,12 @@ ghost use Rattle.call_table.specs.Fit.{isEmptied, isWithin, fitHeld, fit
 ghost use Rattle.call_table.specs.Table.{isNothing, placeIn, callIn, laterOf, soughtAtStart, soughtOf, soughtIn, startOf, stepOf};
 ghost use Rattle.call_table.specs.Table.{seenOf, keysOf, refusedAt, placedAt, decideFitOf, decideOf};
 ghost use Rattle.call_table.specs.Table.{ranOf, tableOf, ranFitOf, tableFitOf};
+ghost use Rattle.call_table.specs.Table.{isNowhere, notedOf, placesAtStart, isEnough, placesOf, placesIn, fetchedFrom, neededBy};
+ghost use Rattle.call_table.specs.Table.{unreadAt, filledOf, decideAtOf};
 use admission::Admission;
 use call::Call;
 use call::Outcome;
+use events::Act;
 use events::NodeAct;
 use rows::State;
 use signal::Answer;
@@ -31,6 +34,18 @@ pub enum Found {
 pub struct Sought {
     pub found: Found,
     pub free: Found,
+}
+
+// Where a record stands.
+pub enum Place {
+    Here(usize),
+    Nowhere,
+}
+
+// Where the record with the key stands, and the lowest empty record.
+pub struct Places {
+    pub found: Place,
+    pub free: Place,
 }
 
 // What one reading of the row tells: that every record is fit by itself, and what is sought.
@@ -242,18 +257,86 @@ fn survey(t: &[Call], key: u32, keys: &mut [u32]) -> Seen
     s
 }
 
-// One reading without the check.
-fn look(t: &[Call], key: u32) -> Sought
-    ensures { λ r. ⌜ r ≡ soughtIn (now (t .entry)) key ⌝ }
+fn nowhere(place: Place) -> bool
+    ensures { λ r. ⌜ r ≡ isNowhere place ⌝ }
 {
-    let mut s = seek_start(key);
+    match place {
+        Place::Here(_) => false,
+        Place::Nowhere => true,
+    }
+}
+
+// What is known stays; else the record at i is it, where its key, k, is the one.
+fn noted(place: Place, key: u32, i: usize, k: u32) -> Place
+    ensures { λ r. ⌜ r ≡ notedOf place key i k ⌝ }
+{
+    match place {
+        Place::Here(j) => Place::Here(j),
+        Place::Nowhere => {
+            if k == key {
+                return Place::Here(i);
+            }
+            Place::Nowhere
+        }
+    }
+}
+
+fn look_start(key: u32) -> Places
+    ensures { λ r. ⌜ r ≡ placesAtStart key ⌝ }
+{
+    Places {
+        found: Place::Nowhere,
+        free: Place::Nowhere,
+    }
+}
+
+// Nothing more of the row is needed: key 0 is refused in any case, and of the record with the key there is only one.
+fn enough(s: Places, key: u32) -> bool
+    ensures { λ r. ⌜ r ≡ isEnough s key ⌝ }
+{
+    if key == 0 {
+        return true;
+    }
+    let found = s.found;
+    !nowhere(found)
+}
+
+fn note(s: Places, key: u32, i: usize, k: u32) -> Places
+    ensures { λ r. ⌜ r ≡ placesOf s key i k ⌝ }
+{
+    let a = s.found;
+    let found = noted(a, key, i, k);
+    let b = s.free;
+    let free = noted(b, 0, i, k);
+    Places { found, free }
+}
+
+// One reading without the check: of each record the key alone, and no further than need be.
+fn look(t: &[Call], key: u32) -> Places
+    ensures { λ r. ⌜ r ≡ placesIn (now (t .entry)) key ⌝ }
+{
+    let mut s = look_start(key);
     let mut i = 0;
     while i < t.len() {
-        let c = t[i];
-        s = seek(s, key, i, c);
+        if enough(s, key) {
+            return s;
+        }
+        let k = t[i].key;
+        s = note(s, key, i, k);
         i += 1;
     }
     s
+}
+
+// The record at a place; past the end there is none.
+fn fetch(t: &[Call], i: usize) -> Found
+    ensures { λ r. ⌜ r ≡ fetchedFrom (now (t .entry)) i ⌝ }
+{
+    if i < t.len() {
+        let c = t[i];
+        return Found::At(i, c);
+    }
+    Found::Nothing
 }
 
 // The record is put back; past the end nothing is.
@@ -308,6 +391,54 @@ fn decide_fit(n: usize, s: Sought, key: u32, asked: NodeAct) -> Ran
     }
 }
 
+// The record that is needed, in a row of n: an event's; an opening needs none.
+fn needed(n: usize, s: Places, asked: NodeAct) -> usize
+    ensures { λ r. ⌜ r ≡ neededBy n s (asked .act) ⌝ }
+{
+    let act = asked.act;
+    match act {
+        Act::Opens(_) => n,
+        Act::Meets(_) => {
+            let found = s.found;
+            match found {
+                Place::Here(i) => i,
+                Place::Nowhere => n,
+            }
+        }
+    }
+}
+
+// A place, without its record.
+fn unread(place: Place) -> Found
+    ensures { λ r. ⌜ r ≡ unreadAt place ⌝ }
+{
+    match place {
+        Place::Here(i) => Found::At(i, Call::EMPTY),
+        Place::Nowhere => Found::Nothing,
+    }
+}
+
+// What was fetched, and else the place alone.
+fn filled(place: Place, fetched: Found) -> Found
+    ensures { λ r. ⌜ r ≡ filledOf place fetched ⌝ }
+{
+    match fetched {
+        Found::At(_, _) => fetched,
+        Found::Nothing => unread(place),
+    }
+}
+
+fn decide_at(n: usize, s: Places, fetched: Found, key: u32, asked: NodeAct) -> Ran
+    ensures { λ r. ⌜ r ≡ decideAtOf (halfOf (asked .node)) n s fetched key (asked .act) ⌝ }
+{
+    let a = s.found;
+    let found = filled(a, fetched);
+    let b = s.free;
+    let free = unread(b);
+    let sought = Sought { found, free };
+    decide_fit(n, sought, key, asked)
+}
+
 // 101 comes first of all.
 fn decide(n: usize, s: Seen, ok: bool, key: u32, asked: NodeAct) -> Ran
     ensures { λ r. ⌜ r ≡ decideOf (halfOf (asked .node)) n s ok key (asked .act) ⌝ }
@@ -336,13 +467,16 @@ pub fn handle(t: &mut [Call], key: u32, asked: NodeAct) -> Done
     d.done
 }
 
-// The same without the check of the table, for a row that is known to be fit.
+// The same without the check of the table, for a row that is known to be fit: the keys are read, and of an event the record.
 pub fn handle_fit(t: &mut [Call], key: u32, asked: NodeAct) -> Done
     ensures { λ r. ⌜ (r ≡ ranFitOf (halfOf (asked .node)) (now (t .entry)) key (asked .act) .done)
         × (now (t .exit) ≡ tableFitOf (halfOf (asked .node)) (now (t .entry)) key (asked .act)) ⌝ }
 {
     let s = look(t, key);
-    let d = decide_fit(t.len(), s, key, asked);
+    let n = t.len();
+    let at = needed(n, s, asked);
+    let f = fetch(t, at);
+    let d = decide_at(n, s, f, key, asked);
     put(t, d.at, d.call);
     d.done
 }

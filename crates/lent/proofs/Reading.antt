@@ -37,7 +37,8 @@ use Rattle.lent.proofs.Record as Rec
 use Rattle.lent.proofs.Lend.{Lent}
 use Rattle.lent.proofs.Locals.{byValue, at}
 use Rattle.lent.proofs.Ask.{Asked, Asks, asks}
-use Rattle.lent.proofs.Turn.{Six, six, slice, Nearer, Nearer-wf, turning, Stand}
+use Rattle.lent.proofs.Element.{slice}
+use Rattle.lent.proofs.Turn.{Six, six, Nearer, Nearer-wf, turning, Stand}
 use Rattle.lent.proofs.Turn as turn
 
 pub record Names : Type 0 where

@@ -1,15 +1,14 @@
--- The laws of `firstFrom` that a loop over the list needs.
+-- A test, by its outcome; and the laws of `readUntil` that a loop over the list needs. Assumes nothing.
 use mathlib.Core.Path.{_≡_, refl, sym, _∙_, ap, subst}
-use Prim.Native.Nat.{ℕ, suc, _+_, _<_}
+use Prim.Native.Nat.{ℕ, _+_, _<_}
 use native.Mathlib.Numerals.{add-one}
-use mathlib.Core.Bool.{Bool, true, false, not, cond}
+use mathlib.Core.Bool.{Bool, cond, false, not, true}
 use mathlib.Core.List.{List, [], _∷_}
 use lib.ListN.{length, getD, drop}
 use lib.Seq.{drop-cons, drop-length}
-use lib.Dec.{T, eqb}
-use Rattle.lent.specs.Search.{firstFrom}
+use lib.Dec.{T}
+use Rattle.lent.specs.Search.{readUntil}
 
--- a test, by its outcome
 pub by-test {ℓ} : {X : Type ℓ} (t : Bool) → (t ≡ true → X) → (t ≡ false → X) → X
 by-test true a b = a refl
 by-test false a b = b refl
@@ -20,29 +19,30 @@ is-true t e = subst T (sym e) tt
 pub is-false : (t : Bool) → t ≡ false → T (not t)
 is-false t e = subst (λ (u : Bool). T (not u)) (sym e) tt
 
-yes-is : (t : Bool) → T t → t ≡ true
+pub yes-is : (t : Bool) → T t → t ≡ true
 yes-is true _ = refl
 yes-is false a = absurd a
 
-no-is : (t : Bool) → T (not t) → t ≡ false
+pub no-is : (t : Bool) → T (not t) → t ≡ false
 no-is true a = absurd a
 no-is false _ = refl
 
-module _ {X F : Type 0} (key : X → ℕ) (hit : ℕ → X → F) (none : F) (k : ℕ) (ys : List X) (d : X) where
-  -- the answer from i on
-  abbrev pub onward : ℕ → F
-  onward i = firstFrom key hit none k i (drop i ys)
+-- what is known from i on: where there is a record at i and no more is needed, where there is one and more is, and at the end
+module _ {X Y : Type 0} (enough : Y → Bool) (step : Y → ℕ → X → Y) (ys : List X) (d : X) (i : ℕ) (v : Y) where
+  abbrev onward : Y
+  onward = readUntil enough step i v (drop i ys)
 
-  step-at : (i : ℕ) → i < length ys → onward i ≡ cond (eqb (key (getD ys i d)) k) (hit i (getD ys i d)) (onward (i + 1))
-  unfolding firstFrom
-  step-at i l = ap (firstFrom key hit none k i) (drop-cons ys i d l) ∙ ap (λ (n : ℕ). cond (eqb (key (getD ys i d)) k) (hit i (getD ys i d)) (firstFrom key hit none k (i + 1) (drop n ys))) (sym (add-one i))
+  one-more : i < length ys → onward ≡ cond (enough v) v (readUntil enough step (i + 1) (step v i (getD ys i d)) (drop (i + 1) ys))
+  unfolding readUntil
+  one-more l = ap (readUntil enough step i v) (drop-cons ys i d l) ∙ ap (λ (n : ℕ). cond (enough v) v
+      (readUntil enough step (i + 1) (step v i (getD ys i d)) (drop n ys))) (sym (add-one i))
 
-  pub hit-at : (i : ℕ) → i < length ys → T (eqb (key (getD ys i d)) k) → onward i ≡ hit i (getD ys i d)
-  hit-at i l t = step-at i l ∙ ap (λ (u : Bool). cond u (hit i (getD ys i d)) (onward (i + 1))) (yes-is (eqb (key (getD ys i d)) k) t)
+  pub stopped-at : i < length ys → enough v ≡ true → onward ≡ v
+  stopped-at l e = one-more l ∙ ap (λ (b : Bool). cond b v (readUntil enough step (i + 1) (step v i (getD ys i d)) (drop (i + 1) ys))) e
 
-  pub past-at : (i : ℕ) → i < length ys → T (not (eqb (key (getD ys i d)) k)) → onward i ≡ onward (i + 1)
-  past-at i l t = step-at i l ∙ ap (λ (u : Bool). cond u (hit i (getD ys i d)) (onward (i + 1))) (no-is (eqb (key (getD ys i d)) k) t)
+  pub further-at : i < length ys → enough v ≡ false → onward ≡ readUntil enough step (i + 1) (step v i (getD ys i d)) (drop (i + 1) ys)
+  further-at l e = one-more l ∙ ap (λ (b : Bool). cond b v (readUntil enough step (i + 1) (step v i (getD ys i d)) (drop (i + 1) ys))) e
 
-  pub none-at : onward (length ys) ≡ none
-  unfolding firstFrom
-  none-at = ap (firstFrom key hit none k (length ys)) (drop-length ys)
+  pub ended-at : i ≡ length ys → onward ≡ v
+  unfolding readUntil
+  ended-at e = ap (λ (n : ℕ). readUntil enough step n v (drop n ys)) e ∙ ap (readUntil enough step (length ys) v) (drop-length ys)

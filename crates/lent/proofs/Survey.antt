@@ -53,7 +53,7 @@ use Rattle.lent.proofs.Record.{Plain, Values, typeOf, IsOf, Row, Key, a
 use Rattle.lent.proofs.Lend.{Lent, lentBy}
 use Rattle.lent.proofs.Locals.{byValue, deaths, enters, leaves}
 use Rattle.lent.proofs.Ask.{taking, said}
-use Rattle.lent.proofs.Turn.{ref, val, own}
+use Rattle.lent.proofs.Element.{ref, val, own}
 use Rattle.lent.proofs.Reading.{Names, Loop, loopOf, Blocks, blocksOf, Start, Step, scanOf}
 use Rattle.lent.proofs.Reading as reading
 
