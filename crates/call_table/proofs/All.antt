@@ -5,6 +5,7 @@ use Rattle.call_table.specs.Claims.{TableClaims}
 use Rattle.call_table.proofs.Stored as stored
 use Rattle.call_table.proofs.Claims as answers
 use Rattle.call_table.proofs.Given as given
+use Rattle.call_table.proofs.Stopped as stopped
 use Rattle.call_table.proofs.Kept as kept
 
 pub claims : (half : Half) → Lawful half → TableClaims half
@@ -19,5 +20,6 @@ claims half lawful =
       openingTakesItsRecord = stored.opening-takes-its-record half;
       takesLowestEmpty = stored.takes-lowest-empty half;
       othersStay = answers.others-stay half lawful;
+      enoughIsRead = stopped.enough-is-read half;
       staysFit = kept.stays-fit half lawful;
     }

@@ -1,13 +1,13 @@
--- A reading of the keys alone, which stops where it may, tells enough: what is decided of it, and of the record of an event, is what is
--- decided of the whole row. Assumes nothing.
+-- A reading of the keys alone, which stops where it may, tells enough (specs/Claims): what is decided of it, and of the record of an event,
+-- is what is decided of the whole row; and what is not read has no say in it. Assumes nothing.
 use Prim.Native.Nat.{_+_, _<_, ℕ}
 use native.Mathlib.Omega.{arith}
-use mathlib.Core.Bool.{Bool, _||_, cond, false, true, true≢false}
-use mathlib.Core.List.{List, [], _∷_}
+use mathlib.Core.Bool.{Bool, _||_, cond, false, not, true, true≢false}
+use mathlib.Core.List.{List, [], _++_, _∷_, map}
 use mathlib.Core.Path.{_∙_, _≡_, ap, refl, sym}
 use lib.Dec.{eqb, ltb}
 use lib.ListN.{getD, length}
-use borrow.Author.Tests.{le-ltb, lt-ltb}
+use borrow.Author.Tests.{eq-eqb, le-ltb, lt-ltb}
 use Rattle.lent.specs.Search.{firstFrom, readUntil}
 use Rattle.signal.specs.declared.Answer.the-variants.{KeyZero}
 use Rattle.events.specs.declared.Act.{Act}
@@ -15,8 +15,10 @@ use Rattle.events.specs.declared.Act.the-variants.{Meets, Opens}
 use Rattle.call.specs.Events.{Half}
 use Rattle.call.specs.Record.{emptied}
 use Rattle.call.specs.declared.Call.{Call}
-use Rattle.call_table.specs.Table.{decideAtOf, decideFitOf, fetchedFrom, isEnough, neededBy, notedOf, placesIn, placesOf, ranFitOf}
-use Rattle.call_table.specs.Table.{filledOf, refusedAt, soughtIn, unreadAt}
+use Rattle.call_table.specs.Claims as claim
+use Rattle.call_table.specs.Reading.{decideAtOf, fetchedFrom, filledOf, isEnough, neededBy, notedOf, placesAtStart, placesIn, placesOf}
+use Rattle.call_table.specs.Reading.{isNowhere, placeOr, unreadAt}
+use Rattle.call_table.specs.Table.{decideFitOf, ranFitOf, refusedAt, soughtIn}
 use Rattle.call_table.specs.declared.Found.{Found}
 use Rattle.call_table.specs.declared.Found.the-variants.{At, Nothing}
 use Rattle.call_table.specs.declared.Place.{Place}
@@ -24,6 +26,10 @@ use Rattle.call_table.specs.declared.Place.the-variants.{Here, Nowhere}
 use Rattle.call_table.specs.declared.Places.{Places}
 use Rattle.call_table.specs.declared.Sought.{Sought}
 use Rattle.call_table.proofs.Search.{first, found-at, sought-is}
+
+or-true : (b : Bool) → (b || true) ≡ true
+or-true true = refl
+or-true false = refl
 
 -- the place of what is found
 abbrev placeOf : Found → Place
@@ -43,6 +49,45 @@ stays : (key i : ℕ) (s : Places) (ys : List Call) → isEnough s key ≡ true 
 unfolding readUntil
 stays key i s [] e = refl
 stays key i s (c ∷ cs) e = ap (λ (b : Bool). cond b s (from key (i + 1) (placesOf s key i (c .key)) cs)) e
+
+-- ---- what has no say
+
+-- the record with the key is enough, whatever was known before
+enough-there : (s : Places) (key i : ℕ) → isEnough (placesOf s key i key) key ≡ true
+enough-there s key i = ap (λ (p : Place). eqb key 0 || not (isNowhere p)) (there (s .found)) ∙ or-true (eqb key 0)
+  where
+    there : (p : Place) → notedOf p key i key ≡ Here (placeOr i p)
+    there (Here j) = refl
+    there Nowhere = ap (λ (b : Bool). cond b (Here i) Nowhere) (eq-eqb key key refl)
+
+behind : (key i : ℕ) (s : Places) (xs ys zs : List Call) (c : Call) → c .key ≡ key → from key i s (xs ++ (c ∷ ys)) ≡ from key i s (xs ++ (c ∷ zs))
+unfolding readUntil
+behind key i s [] ys zs c e =
+    let k = ap (λ (k : ℕ). isEnough (placesOf s key i k) key) e ∙ enough-there s key i in
+    ap (cond (isEnough s key) s) (stays key (i + 1) _ ys k ∙ sym (stays key (i + 1) _ zs k))
+behind key i s (x ∷ xs) ys zs c e = ap (cond (isEnough s key) s) (behind key (i + 1) (placesOf s key i (x .key)) xs ys zs c e)
+
+pub nothing-behind-is-read : claim.NothingBehindIsRead
+nothing-behind-is-read xs ys zs c = behind (c .key) 0 (placesAtStart (c .key)) xs ys zs c refl
+
+pub nothing-is-read-for-key-zero : claim.NothingIsReadForKeyZero
+nothing-is-read-for-key-zero ys zs = stays 0 0 (placesAtStart 0) ys refl ∙ sym (stays 0 0 (placesAtStart 0) zs refl)
+
+alone : (key i : ℕ) (s : Places) (ys zs : List Call) → map (λ c. c .key) ys ≡ map (λ c. c .key) zs → from key i s ys ≡ from key i s zs
+unfolding readUntil
+alone key i s [] [] e = refl
+alone key i s [] (d ∷ ds) e = absurd (let z : _≡_ {A = ℕ} 0 1 = cc in omega arith)
+alone key i s (c ∷ cs) [] e = absurd (let z : _≡_ {A = ℕ} 0 1 = cc in omega arith)
+alone key i s (c ∷ cs) (d ∷ ds) e =
+    let k : c .key ≡ d .key = cc in
+    let more : map (λ c. c .key) cs ≡ map (λ c. c .key) ds = cc in
+    ap (cond (isEnough s key) s)
+    (ap (λ (k : ℕ). from key (i + 1) (placesOf s key i k) cs) k ∙ alone key (i + 1) (placesOf s key i (d .key)) cs ds more)
+
+pub keys-alone-are-read : claim.KeysAloneAreRead
+keys-alone-are-read ys zs key e = alone key 0 (placesAtStart key) ys zs e
+
+-- ---- what was read is enough
 
 or-nowhere : (p : Place) → p ≡ orPlace p Nowhere
 or-nowhere (Here j) = refl
@@ -82,10 +127,6 @@ tells key i free (c ∷ cs) z = by-zero (eqb key 0) z (by-test (eqb (c .key) key
         → (from key (i + 1) (after b) cs .found ≡ placeOf (firstly b))
         × (firstly b ≡ Nothing → from key (i + 1) (after b) cs .free ≡ orPlace free (placeOf (first 0 i (c ∷ cs))))
     by-test true h = (ap (λ (s : Places). s .found) (stays key (i + 1) (after true) cs (or-true (eqb key 0))), λ e. absurd (never e))
-      where
-        or-true : (b : Bool) → (b || true) ≡ true
-        or-true true = refl
-        or-true false = refl
     by-test false h = (h .found-is, λ e. h .free-is e ∙ one-more free i c cs)
 
     by-zero : (b : Bool) → b ≡ false
@@ -131,10 +172,8 @@ module _ (half : Half) where
   decided n key (Meets event) (At j c) g s h z p q e = rw (z, e)
   decided n key (Meets event) Nothing g s h z p q e = rw (z, p, e)
 
-  pub enough-was-read : (ys : List Call) (key : ℕ) (act : Act)
-      → decideAtOf half (length ys) (placesIn ys key) (fetchedFrom ys (neededBy (length ys) (placesIn ys key) act)) key act
-      ≡ ranFitOf half ys key act
-  enough-was-read ys key act = by-zero (eqb key 0) refl
+  pub enough-is-read : claim.EnoughIsRead half
+  enough-is-read ys key act = by-zero (eqb key 0) refl
     where
       fetched : Found
       fetched = fetchedFrom ys (neededBy (length ys) (placesIn ys key) act)
@@ -151,3 +190,6 @@ module _ (half : Half) where
           decided (length ys) key act (first key 0 ys) (first 0 0 ys) (placesIn ys key) _ z (r .found-is) (r .free-is)
           (fetched-for ys key act (placesIn ys key) (r .found-is))
           ∙ ap (λ (s : Sought). decideFitOf half (length ys) s key act) (sym (sought-is ys key))
+
+pub opening-fetches-none : claim.OpeningFetchesNone
+opening-fetches-none ys s wanted = past ys

@@ -181,6 +181,40 @@ module _ {M : Type 1} (𝓤 : URA M) (H : Heap 𝓤) (A : Atoms 𝓤) (memory : 
       let z : _≡_ {A = ℕ} 1 _ = ap (λ (ys : List Call). stateNumber (getD ys 0 emptied .state)) (h .1) in
       omega arith)
 
+  -- the search may stop at the first empty record only if 103 needs no more (02, Ask 4): the key may stand behind it
+  pub search-ends-at-the-first-empty-record :
+      (signals : List Signal) (left : List Call) →
+      handle-fit-shuts-out (emptied ∷ idle 7 ∷ []) 7 (Opens Unnamed) (answering WasDone signals) left
+  unfolding readFrom has distinctOf
+  search-ends-at-the-first-empty-record signals left κs =
+      fact-mono 𝓤 _ _ (λ h. let z : _≡_ {A = ℕ} 0 _ = ap (λ (d : Done). answerNumber (d .answer)) (h .0) in omega arith)
+
+  -- nor is an event's key missing, where an empty record stands before it
+  pub key-behind-an-empty-record-is-missed :
+      (signals : List Signal) (left : List Call) →
+      handle-fit-shuts-out (emptied ∷ idle 7 ∷ []) 7 (Meets Trigger) (answering KeyNotOnRecord signals) left
+  unfolding readFrom has distinctOf
+  key-behind-an-empty-record-is-missed signals left κs =
+      fact-mono 𝓤 _ _ (λ h. let z : _≡_ {A = ℕ} 105 _ = ap (λ (d : Done). answerNumber (d .answer)) (h .0) in omega arith)
+
+  -- of empty records it is the lowest that is taken, also where no more than the keys is read
+  pub a-later-empty-record-is-taken :
+      (d : Done) (c : Call) →
+      handle-fit-shuts-out (idle 5 ∷ emptied ∷ emptied ∷ []) 7 (Opens Unnamed) d (idle 5 ∷ emptied ∷ c ∷ [])
+  unfolding readFrom has distinctOf
+  a-later-empty-record-is-taken d c κs =
+      fact-mono 𝓤 _ _ (λ h. let z : _≡_ {A = ℕ} 0 _ = ap (λ (ys : List Call). getD ys 1 emptied .key) (h .1) in omega arith)
+
+  -- and of two records with one key, on a row that is not fit, the lowest
+  pub a-later-record-with-the-key-is-taken :
+      (d : Done) (c : Call) →
+      handle-fit-shuts-out (idle 7 ∷ idle 7 ∷ []) 7 (Meets Trigger) d (idle 7 ∷ c ∷ [])
+  unfolding readFrom has distinctOf
+  a-later-record-with-the-key-is-taken d c κs =
+      fact-mono 𝓤 _ _ (λ h.
+      let z : _≡_ {A = ℕ} 1 _ = ap (λ (ys : List Call). stateNumber (getD ys 0 emptied .state)) (h .1) in
+      omega arith)
+
   -- handle64: of a table by value, a key and what is requested, what is answered with the table after it
   abbrev handle64-shuts-out : List Call → ℕ → Act → SixtyFour → Type 1
   handle64-shuts-out table key act r =

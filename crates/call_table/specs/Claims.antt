@@ -1,9 +1,10 @@
 -- The claims on one opening or event over a lent row of records, at either end: any row, fit or not, any key and any act. `Ran` is what is
 -- decided, and `tableOf` the row after it: the two that the contracts of `handle` and `handle64` fix. "01" is the scope document, a demand
--- one of the three in README.md. Proofs: proofs/Fit.antt, Stored.antt, Claims.antt, Given.antt and Kept.antt. Assumes nothing.
+-- one of the three in README.md. Proofs: proofs/Fit.antt, Stored.antt, Claims.antt, Given.antt,
+-- Stopped.antt and Kept.antt. Assumes nothing.
 use Prim.Native.Nat.{_<_, _≤_, ℕ}
 use mathlib.Core.Bool.{Bool, cond, false, not, true}
-use mathlib.Core.List.{List, [], _∷_}
+use mathlib.Core.List.{List, [], _++_, _∷_, map}
 use mathlib.Core.Logic.{_↔_, _⊎_}
 use mathlib.Core.Path.{_≡_}
 use lib.Dec.{eqb}
@@ -20,7 +21,10 @@ use Rattle.call.specs.Events.{Half, handledAt}
 use Rattle.call.specs.Record.{emptied, openedFor}
 use Rattle.call.specs.declared.Call.{Call}
 use Rattle.call_table.specs.Fit.{fitTable}
+use Rattle.call_table.specs.Reading.{decideAtOf, fetchedFrom, neededBy, placesIn}
 use Rattle.call_table.specs.Table.{ranFitOf, ranOf, tableFitOf, tableOf}
+use Rattle.call_table.specs.declared.Found.the-variants.{Nothing}
+use Rattle.call_table.specs.declared.Places.{Places}
 use Rattle.lent.specs.Keyed as keyed
 
 -- 01, 101, of one record in use: it is not in Null, has a last number of at least 1, and its held numbers lie between 1 and the last and
@@ -174,9 +178,33 @@ module _ (half : Half) where
       × ((i : ℕ) → (getD ys i emptied .key ≡ key → ⊥) → (getD ys i emptied .key ≡ 0 → ⊥) →
       getD (tableOf half ys key act) i emptied ≡ getD ys i emptied)
 
+  -- 02, Ask 4: what is decided of what is read of a row without the check, the keys up to the one that is sought and the record of an
+  -- event, is what is decided of the whole row; fit or not.
+  abbrev pub EnoughIsRead : Type 0
+  EnoughIsRead =
+      (ys : List Call) (key : ℕ) (act : Act) →
+      decideAtOf half (length ys) (placesIn ys key) (fetchedFrom ys (neededBy (length ys) (placesIn ys key) act)) key act
+      ≡ ranFitOf half ys key act
+
   -- Demand 1 and 2: a fit table stays fit under every opening and event.
   abbrev pub StaysFit : Type 0
   StaysFit = (ys : List Call) (key : ℕ) (act : Act) → FitTable ys → FitTable (tableOf half ys key act)
+
+-- 02, Ask 4, of the search without the check: what stands behind the record with the key has no say in it
+abbrev pub NothingBehindIsRead : Type 0
+NothingBehindIsRead = (xs ys zs : List Call) (c : Call) → placesIn (xs ++ (c ∷ ys)) (c .key) ≡ placesIn (xs ++ (c ∷ zs)) (c .key)
+
+-- for key 0 no record has
+abbrev pub NothingIsReadForKeyZero : Type 0
+NothingIsReadForKeyZero = (ys zs : List Call) → placesIn ys 0 ≡ placesIn zs 0
+
+-- nor has anything of a record but its key
+abbrev pub KeysAloneAreRead : Type 0
+KeysAloneAreRead = (ys zs : List Call) (key : ℕ) → map (λ c. c .key) ys ≡ map (λ c. c .key) zs → placesIn ys key ≡ placesIn zs key
+
+-- and for an opening no record is fetched
+abbrev pub OpeningFetchesNone : Type 0
+OpeningFetchesNone = (ys : List Call) (s : Places) (wanted : Wanted) → fetchedFrom ys (neededBy (length ys) s (Opens wanted)) ≡ Nothing
 
 -- all of them, of one half
 pub record TableClaims (half : Half) : Type 0 where
@@ -189,4 +217,5 @@ pub record TableClaims (half : Half) : Type 0 where
   pub openingTakesItsRecord : OpeningTakesItsRecord half
   pub takesLowestEmpty : TakesLowestEmpty half
   pub othersStay : OthersStay half
+  pub enoughIsRead : EnoughIsRead half
   pub staysFit : StaysFit half

@@ -1,16 +1,15 @@
 -- One opening or event by key, over a row of records, at either end: the answer and signals, and the whole new row (01, "The table and its
 -- records", "Numbers of refusal"). Assumes nothing.
 use Prim.Native.Nat.{ℕ}
-use mathlib.Core.Bool.{Bool, _&&_, _||_, cond, false, not, true}
+use mathlib.Core.Bool.{Bool, _&&_, cond, false, true}
 use mathlib.Core.List.{List, []}
 use lib.Dec.{eqb}
 use lib.ListN.{length, set}
-use Rattle.lent.specs.Search.{elementAt, keysFrom, readFrom, readUntil}
+use Rattle.lent.specs.Search.{keysFrom, readFrom}
 use Rattle.signal.specs.Signals.{places}
 use Rattle.signal.specs.declared.Answer.{Answer}
 use Rattle.signal.specs.declared.Answer.the-variants.{TableUnfit}
 use Rattle.events.specs.declared.Act.{Act}
-use Rattle.events.specs.declared.Act.the-variants.{Meets, Opens}
 use Rattle.admission.specs.Admission.{admissionOf}
 use Rattle.admission.specs.declared.Admission.{Admission}
 use Rattle.admission.specs.declared.Admission.the-variants.{Reaches, Refuses, Takes}
@@ -21,9 +20,6 @@ use Rattle.call.specs.declared.Outcome.{Outcome}
 use Rattle.call_table.specs.Fit.{fitKeys, fitRecord}
 use Rattle.call_table.specs.declared.Found.{Found}
 use Rattle.call_table.specs.declared.Found.the-variants.{At, Nothing}
-use Rattle.call_table.specs.declared.Place.{Place}
-use Rattle.call_table.specs.declared.Place.the-variants.{Here, Nowhere}
-use Rattle.call_table.specs.declared.Places.{Places}
 use Rattle.call_table.specs.declared.Ran.{Ran}
 use Rattle.call_table.specs.declared.Seen.{Seen}
 use Rattle.call_table.specs.declared.Sought.{Sought}
@@ -71,50 +67,6 @@ seenOf ys key = readFrom (λ s i c. stepOf s key i c) 0 (startOf key) ys
 abbrev pub keysOf : List ℕ → List Call → List ℕ
 keysOf ks ys = keysFrom (λ c. c .key) 0 ks ys
 
--- the same of the keys alone, where no more is read than need be (02, Ask 4): whether a place is none; what stays, or else the record at i,
--- where its key k is the one
-abbrev pub isNowhere : Place → Bool
-isNowhere (Here j) = false
-isNowhere Nowhere = true
-
-abbrev pub notedOf : Place → ℕ → ℕ → ℕ → Place
-notedOf (Here j) key i k = Here j
-notedOf Nowhere key i k = cond (eqb k key) (Here i) Nowhere
-
-abbrev pub placesAtStart : ℕ → Places
-placesAtStart key = record { found = Nowhere; free = Nowhere }
-
-abbrev pub placesOf : Places → ℕ → ℕ → ℕ → Places
-placesOf s key i k = record { found = notedOf (s .found) key i k; free = notedOf (s .free) 0 i k }
-
--- key 0 is refused whatever the row holds, and nothing is asked of a record behind the one with the key
-abbrev pub isEnough : Places → ℕ → Bool
-isEnough s key = eqb key 0 || not (isNowhere (s .found))
-
-abbrev pub placesIn : List Call → ℕ → Places
-placesIn ys key = readUntil (λ s. isEnough s key) (λ s i c. placesOf s key i (c .key)) 0 (placesAtStart key) ys
-
--- the record at a place; an event needs that of its key, and an opening none
-abbrev pub fetchedFrom : List Call → ℕ → Found
-fetchedFrom ys i = elementAt At Nothing emptied ys i
-
-abbrev pub placeOr : ℕ → Place → ℕ
-placeOr n (Here i) = i
-placeOr n Nowhere = n
-
-abbrev pub neededBy : ℕ → Places → Act → ℕ
-neededBy n s (Opens wanted) = n
-neededBy n s (Meets e) = placeOr n (s .found)
-
--- a place without its record, and with the one that was fetched
-abbrev pub unreadAt : Place → Found
-unreadAt (Here i) = At i emptied
-unreadAt Nowhere = Nothing
-
-abbrev pub filledOf : Place → Found → Found
-filledOf place (At i c) = At i c
-filledOf place Nothing = unreadAt place
-
 -- a refusal stores past the end, which is nowhere, and sends nothing
 abbrev pub refusedAt : ℕ → Answer → Ran
 refusedAt n a = record { done = record { answer = a; signals = places [] }; at = n; call = emptied }
@@ -133,11 +85,6 @@ module _ (half : Half) where
   -- 102 to 105 come before anything of a record
   abbrev pub decideFitOf : ℕ → Sought → ℕ → Act → Ran
   decideFitOf n s key act = ranBy n s key (admissionOf key act (isNothing (s .found)) (isNothing (s .free)))
-
-  -- the same, of the keys and the record that was fetched
-  abbrev pub decideAtOf : ℕ → Places → Found → ℕ → Act → Ran
-  decideAtOf n s fetched key act =
-      decideFitOf n (record { found = filledOf (s .found) fetched; free = unreadAt (s .free) }) key act
 
   -- 101 first of all
   abbrev pub decideOf : ℕ → Seen → Bool → ℕ → Act → Ran

@@ -13,8 +13,8 @@ ghost use Rattle.call_table.specs.Fit.{isEmptied, isWithin, fitHeld, fit
 ghost use Rattle.call_table.specs.Table.{isNothing, placeIn, callIn, laterOf, soughtAtStart, soughtOf, soughtIn, startOf, stepOf};
 ghost use Rattle.call_table.specs.Table.{seenOf, keysOf, refusedAt, placedAt, decideFitOf, decideOf};
 ghost use Rattle.call_table.specs.Table.{ranOf, tableOf, ranFitOf, tableFitOf};
-ghost use Rattle.call_table.specs.Table.{isNowhere, notedOf, placesAtStart, isEnough, placesOf, placesIn, fetchedFrom, neededBy};
-ghost use Rattle.call_table.specs.Table.{unreadAt, filledOf, decideAtOf};
+ghost use Rattle.call_table.specs.Reading.{isNowhere, placeOr, notedOf, placesAtStart, isEnough, placesOf, placesIn, fetchedFrom};
+ghost use Rattle.call_table.specs.Reading.{neededBy, unreadAt, filledOf, decideAtOf};
 use admission::Admission;
 use call::Call;
 use call::Outcome;
@@ -297,8 +297,8 @@ fn enough(s: Places, key: u32) -> bool
     if key == 0 {
         return true;
     }
-    let found = s.found;
-    !nowhere(found)
+    let sought = s.found;
+    !nowhere(sought)
 }
 
 fn note(s: Places, key: u32, i: usize, k: u32) -> Places
@@ -391,20 +391,25 @@ fn decide_fit(n: usize, s: Sought, key: u32, asked: NodeAct) -> Ran
     }
 }
 
-// The record that is needed, in a row of n: an event's; an opening needs none.
+// Where it is; else past the end of a row of n records.
+fn place_or(n: usize, place: Place) -> usize
+    ensures { λ r. ⌜ r ≡ placeOr n place ⌝ }
+{
+    match place {
+        Place::Here(i) => i,
+        Place::Nowhere => n,
+    }
+}
+
+// The place of the record that is needed: an event's; an opening needs none.
 fn needed(n: usize, s: Places, asked: NodeAct) -> usize
     ensures { λ r. ⌜ r ≡ neededBy n s (asked .act) ⌝ }
 {
     let act = asked.act;
+    let found = s.found;
     match act {
         Act::Opens(_) => n,
-        Act::Meets(_) => {
-            let found = s.found;
-            match found {
-                Place::Here(i) => i,
-                Place::Nowhere => n,
-            }
-        }
+        Act::Meets(_) => place_or(n, found),
     }
 }
 

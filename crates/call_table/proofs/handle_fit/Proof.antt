@@ -5,8 +5,9 @@ use denote.Triple.Spec.{tripleOf}
 use denote.Triple.Table.{entered, cited}
 use Rattle.lent.proofs.Handle as walked
 use Rattle.call.specs.Events.{halfOf}
-use Rattle.call_table.specs.Table.{placesIn, neededBy, fetchedFrom, decideAtOf, ranFitOf}
-use Rattle.call_table.proofs.Stopped.{enough-was-read}
+use Rattle.call_table.specs.Reading.{placesIn, neededBy, fetchedFrom, decideAtOf}
+use Rattle.call_table.specs.Table.{ranFitOf}
+use Rattle.call_table.proofs.Stopped.{enough-is-read}
 use Rattle.call_table.proofs.Shape.{row, places, found, asked, done, ran, ran-at, ran-call, ran-done}
 use Rattle.call_table.proofs.look.Symbol as look
 use Rattle.call_table.proofs.look.Met as look-thm
@@ -26,7 +27,7 @@ use Rattle.call_table.proofs.handle_fit.Code as code
 -- the code has the walk's shape: a mismatch is told here, in a line
 code-is : code.function ≡ walked.code row places (found .plain) asked done ran ran-at ran-call ran-done placesIn (λ n s q. neededBy n s (q .act)) fetchedFrom
     (λ n s f k q. decideAtOf (halfOf (q .node)) n s f k (q .act)) (λ ys k q. ranFitOf (halfOf (q .node)) ys k (q .act))
-    (λ ys k q. enough-was-read (halfOf (q .node)) ys k (q .act))
+    (λ ys k q. enough-is-read (halfOf (q .node)) ys k (q .act))
     (record { look = look.name; needed = needed.name; fetch = fetch.name; decide = decide-at.name; put = put.name })
 code-is = refl
 
@@ -37,7 +38,7 @@ handle-fit-spec 𝓤 H 𝓜 𝓖 𝓡 =
     (tables 𝓤 H 𝓜 𝓡 code.env .C) (tables 𝓤 H 𝓜 𝓡 code.env .Λ) #call_table·handle_fit code.function (code.unfolded 𝓤 H 𝓜 𝓡)
     (walked.meets row places (found .plain) asked done ran ran-at ran-call ran-done placesIn (λ n s q. neededBy n s (q .act)) fetchedFrom
     (λ n s f k q. decideAtOf (halfOf (q .node)) n s f k (q .act)) (λ ys k q. ranFitOf (halfOf (q .node)) ys k (q .act))
-    (λ ys k q. enough-was-read (halfOf (q .node)) ys k (q .act))
+    (λ ys k q. enough-is-read (halfOf (q .node)) ys k (q .act))
     (record { look = look.name; needed = needed.name; fetch = fetch.name; decide = decide-at.name; put = put.name }) 𝓤 H (𝓖 .A) (givenOf 𝓤 H 𝓜 𝓖) (tablesOf 𝓤 H 𝓜 (tables 𝓤 H 𝓜 𝓡 code.env))
     (cited 𝓤 H _ 𝓜 𝓡 code.env look.name look.routine code.calls-call-table·look (look-thm.met 𝓤 H 𝓜 𝓖 𝓡))
     (cited 𝓤 H _ 𝓜 𝓡 code.env needed.name needed.routine code.calls-call-table·needed (needed-thm.met 𝓤 H 𝓜 𝓖 𝓡))

@@ -7,7 +7,7 @@ use Rattle.lent.proofs.Until as walked
 use mir.Syntax.{w32}
 use Rattle.lent.proofs.Record.{uint}
 use Rattle.call.specs.Record.{emptied}
-use Rattle.call_table.specs.Table.{placesAtStart, isEnough, placesOf}
+use Rattle.call_table.specs.Reading.{placesAtStart, isEnough, placesOf}
 use Rattle.call_table.proofs.Shape.{row, key, places}
 use Rattle.call_table.proofs.look_start.Symbol as look-start
 use Rattle.call_table.proofs.look_start.Met as look-start-thm
