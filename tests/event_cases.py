@@ -6,7 +6,8 @@ import struct
 from counting import NEAR, fail
 from ends import DESTINATION, SOURCE
 
-RECORD = 20
+RECORD, EVENT = 20, 16  # octets
+UNCHECKED = 32768  # added to the count of a case that is not to be checked
 MULTIPLIER, CHAIN = 2654435761, 8  # of crates/distinct: what spreads the keys, and how far a chain is followed
 STEPS, SETS = 4096, 1000
 OPENING, TRIGGER = 0, 1
@@ -17,6 +18,16 @@ IDLE, AWAITING = (1, 1, 0, 1), (7, 1, 2, 2)  # the state's number, incumbent, re
 def record(key, held):
     state, incumbent, rerouting, last = held
     return struct.pack(">IBBBxHHHIxx", key, 1, 2, state, incumbent, rerouting, last, 0)
+
+
+def unchecked(cases):
+    """The same cases, none of them to be checked; the last of them may be bad."""
+    octets, at = bytearray(cases), 0
+    while at + 2 <= len(octets):
+        (records,) = struct.unpack_from(">H", octets, at)
+        struct.pack_into(">H", octets, at, records | UNCHECKED)
+        at += 2 + records * RECORD + EVENT
+    return bytes(octets)
 
 
 def at_random(count):

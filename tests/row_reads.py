@@ -1,53 +1,72 @@
 """What an entry of the table reads of the lent row, from what the compiled program does: its loads, as seen_run sees them.
 
 An entry reads between the time when the row is filled and the return of `call_table::decide_fit`, which every entry
-calls once, behind its reading. Where the row lies is told by the records that are put back: an event that is accepted
-at the next place stores a record's size further on.
+calls once, behind its reading; what follows puts a record back. Where the row lies is told by the records that are put
+back: an event that is accepted at the next place stores a record's size further on. A case of 64 records that is to be
+checked goes to `handle64`, which lends its own copy to `handle`: that copy is the row then.
 """
 import dataclasses
 import struct
 
 from counting import fail
-from event_cases import IDLE, OPENING, RECORD, TRIGGER, at_random, record
+from event_cases import IDLE, OPENING, RECORD, TRIGGER, UNCHECKED, at_random, record
 from seen_run import Run
 
-UNCHECKED = 32768  # docs/TABLES.md: added to the count of a case, it asks for the entry without the check
 DECIDES = "call_table::decide_fit"
 KEY = 4  # octets of a key, with which a record begins
 PUT = 64  # a record is put back among so many stores behind the decision
 FRONT, MIDDLE, END, ABSENT, ZERO = "at the front", "in the middle", "at the end", "absent", "0"
+BEHIND = " behind an empty record"
 
 # what is asked, where its key stands, where the empty record stands, and the answer
 ASKED = [
     *((OPENING, ABSENT, empty, 0) for empty in (FRONT, MIDDLE, END)),
     (OPENING, ABSENT, ABSENT, 104),
     *((OPENING, key, ABSENT, 103) for key in (FRONT, MIDDLE, END)),
+    (OPENING, END, FRONT, 103),
     (OPENING, ZERO, END, 102),
     *((TRIGGER, key, ABSENT, 0) for key in (FRONT, MIDDLE, END)),
+    (TRIGGER, END, FRONT, 0),
     (TRIGGER, ABSENT, ABSENT, 105),
     (TRIGGER, ZERO, END, 102),
 ]
 
 
-def name(asked):
+def in_words(asked):
     kind, key, empty, answer = asked
     what = "opening" if kind == OPENING else "event"
     if kind == OPENING and key == ABSENT:
         told = "no record empty" if empty == ABSENT else f"the empty record {empty}"
     else:
-        told = f"key {key}"
+        told = f"key {key}" + BEHIND * (empty == FRONT)
     return f"{what}, {told}" + (f": {answer}" if answer else "")
+
+
+def places(count):
+    return {FRONT: 0, MIDDLE: count // 2, END: count - 1}
+
+
+def needed(asked, count, unchecked):
+    """How many records have to be read, and of how many more than the key (02, Ask 4; decision 80)."""
+    kind, key_at, _, _ = asked
+    if not unchecked:
+        return count, count  # 101 needs them all
+    if key_at == ZERO:
+        return 0, 0
+    if key_at == ABSENT:
+        return count, 0
+    return places(count)[key_at] + 1, int(kind != OPENING)
 
 
 def case_of(asked, count, unchecked):
     """In octets. The keys are random; one more than there are records is the absent one."""
     kind, key_at, empty_at, _ = asked
-    places = {FRONT: 0, MIDDLE: count // 2, END: count - 1}
+    at = places(count)
     *keys, absent = at_random(count + 1)
     records = [record(key, IDLE) for key in keys]
-    if empty_at in places:
-        records[places[empty_at]] = bytes(RECORD)
-    key = keys[places[key_at]] if key_at in places else {ABSENT: absent, ZERO: 0}[key_at]
+    if empty_at in at:
+        records[at[empty_at]] = bytes(RECORD)
+    key = keys[at[key_at]] if key_at in at else {ABSENT: absent, ZERO: 0}[key_at]
     return head(count, unchecked) + b"".join(records) + event(kind, key)
 
 
@@ -107,8 +126,16 @@ class Reading:
             self.loads.clear()
             self.instructions = 0
 
+    def answered(self, answer):
+        if not self.printed.startswith(f"case 1 answer {answer} n "):
+            fail(f"{self.run.program.path} prints {self.printed[:60]!r}, and the answer {answer} is expected")
+        return self
+
+    def octets(self):
+        return sum(size for _, size in self.loads)
+
     def visits(self):
-        """For each time that a record is read, loads of one record in a row being one time: whether more than its key was loaded."""
+        """For each time that a record is read, whether more than its key was loaded; its loads with no other record's in between are one."""
         row, found, last = self.row, [], None
         for at, size in self.loads:
             for place in range((at - row.start) // row.record, (at + size - 1 - row.start) // row.record + 1):
@@ -121,7 +148,7 @@ class Reading:
 
 def row_of(program, count, unchecked):
     """Where the row lies in this program, for cases of so many records."""
-    stores = [Reading(program, accepted_at(place, count, unchecked)).stores for place in (0, 1, count - 1)]
+    stores = [Reading(program, accepted_at(place, count, unchecked)).answered(0).stores for place in (0, 1, count - 1)]
     apart = [(first, second[0] - first[0], last[0] - first[0]) for first, second, last in zip(*stores) if first != second]
     start = min((at for (at, _), *_ in apart), default=0)
     size = max((at + size for (at, size), *_ in apart), default=0) - start
@@ -131,13 +158,19 @@ def row_of(program, count, unchecked):
 
 
 def reads(program, count, unchecked):
-    """By what is asked: how many records are read, of how many more than the key, and the instructions meanwhile."""
+    """By what is asked: how many records are read, of how many more than the key, the octets loaded, and the instructions meanwhile."""
     row = row_of(program, count, unchecked)
     found = {}
     for asked in ASKED:
-        reading = Reading(program, case_of(asked, count, unchecked), row)
-        if not reading.printed.startswith(f"case 1 answer {asked[3]} n {count} "):
-            fail(f"{name(asked)}, {count} records: it prints {reading.printed[:60]!r}, and the answer {asked[3]} is expected")
+        reading = Reading(program, case_of(asked, count, unchecked), row).answered(asked[3])
         visits = reading.visits()
-        found[name(asked)] = (len(visits), sum(visits), reading.instructions)
+        found[asked] = (len(visits), sum(visits), reading.octets(), reading.instructions)
     return found
+
+
+def too_much(found, count, unchecked):
+    """What is asked of which more, or less, was seen to be read than is needed; an opening without the check loads keys, and each once."""
+    for asked, (records, more, octets, _) in found.items():
+        keys_alone = not unchecked or asked[0] != OPENING or octets == KEY * records
+        if (records, more) != needed(asked, count, unchecked) or not keys_alone:
+            yield f"{in_words(asked)}, of {count:,}"

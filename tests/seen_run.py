@@ -1,7 +1,9 @@
 """Runs a proved program, an x86-64 one on any machine, and sees each instruction, and each load and store that it makes: by the emulator
 library Unicorn and the disassembler Capstone.
 
-A proved program takes four functions from the C library (memcpy, memset, read, write), which stand here in Python.
+Unicorn stops at each instruction, and Capstone tells what memory it names; whether it loads or stores is told here.
+(Unicorn's own word on loads is not complete on every machine, and Capstone's not right for every instruction.) A proved
+program takes four functions from the C library (memcpy, memset, read, write), which stand here in Python.
 """
 import struct
 import sys
@@ -16,8 +18,9 @@ STUB = 32  # octets of a stand-in
 LONGEST = 15  # octets of an instruction
 SYMBOLS, RELOCATIONS, DYNAMIC_SYMBOLS, LOADED = 2, 4, 11, 1  # kinds of sections, and of segments
 OF_A_SYMBOL, RELATIVE = (6, 7), 8  # kinds of relocations
-# what an instruction does to memory that it names first: nothing; a load; by these beginnings a store; else both. Named later, it is loaded
-NO_ACCESS, ONLY_LOADS, ONLY_STORES = ("lea", "nop"), ("bt", "call", "cmp", "div", "idiv", "jmp", "mul", "push", "test"), ("mov", "set")
+# what an instruction does to memory that it names first: nothing; a load; a store, by these beginnings; or both. Named later, it is loaded
+NO_ACCESS, LOADS, STORES = ("lea", "nop"), ("bt", "call", "cmp", "div", "idiv", "imul", "jmp", "mul", "push", "test"), ("mov", "set")
+LOADS_AND_STORES = ("adc", "add", "and", "dec", "inc", "neg", "not", "or", "rol", "ror", "sar", "sbb", "shl", "shr", "sub", "xor")
 
 
 def libraries():
@@ -157,9 +160,13 @@ class Run:
                     yield tell, operand.size, base, index, found.scale, found.disp + known
 
     def told(self, mnemonic, number):
-        if number > 0 or mnemonic in ONLY_LOADS:
+        if number > 0 or mnemonic in LOADS:
             return [self.load]
-        return [self.store] if mnemonic.startswith(ONLY_STORES) else [self.load, self.store]
+        if mnemonic.startswith(STORES):
+            return [self.store]
+        if mnemonic not in LOADS_AND_STORES:
+            fail(f"{self.program.path}: it is not known here what `{mnemonic}` does to memory")
+        return [self.load, self.store]
 
     def numbered(self, decoded, register):
         """Unicorn's number of a register of Capstone's; 0 for none, and for that of the next instruction, which is known."""

@@ -1,19 +1,18 @@
 -- A reading of the keys alone, which stops where it may, tells enough (specs/Claims): what is decided of it, and of the record of an event,
 -- is what is decided of the whole row; and what is not read has no say in it. Assumes nothing.
-use Prim.Native.Nat.{_+_, _<_, ℕ}
+use Prim.Native.Nat.{_+_, ℕ}
 use native.Mathlib.Omega.{arith}
 use mathlib.Core.Bool.{Bool, _||_, cond, false, not, true, true≢false}
 use mathlib.Core.List.{List, [], _++_, _∷_, map}
 use mathlib.Core.Path.{_∙_, _≡_, ap, refl, sym}
-use lib.Dec.{eqb, ltb}
-use lib.ListN.{getD, length}
+use lib.Dec.{eqb}
+use lib.ListN.{length}
 use borrow.Author.Tests.{eq-eqb, le-ltb, lt-ltb}
 use Rattle.lent.specs.Search.{firstFrom, readUntil}
 use Rattle.signal.specs.declared.Answer.the-variants.{KeyZero}
 use Rattle.events.specs.declared.Act.{Act}
 use Rattle.events.specs.declared.Act.the-variants.{Meets, Opens}
 use Rattle.call.specs.Events.{Half}
-use Rattle.call.specs.Record.{emptied}
 use Rattle.call.specs.declared.Call.{Call}
 use Rattle.call_table.specs.Claims as claim
 use Rattle.call_table.specs.Reading.{decideAtOf, fetchedFrom, filledOf, isEnough, neededBy, notedOf, placesAtStart, placesIn, placesOf}
@@ -69,9 +68,6 @@ behind key i s (x ∷ xs) ys zs c e = ap (cond (isEnough s key) s) (behind key (
 
 pub nothing-behind-is-read : claim.NothingBehindIsRead
 nothing-behind-is-read xs ys zs c = behind (c .key) 0 (placesAtStart (c .key)) xs ys zs c refl
-
-pub nothing-is-read-for-key-zero : claim.NothingIsReadForKeyZero
-nothing-is-read-for-key-zero ys zs = stays 0 0 (placesAtStart 0) ys refl ∙ sym (stays 0 0 (placesAtStart 0) zs refl)
 
 alone : (key i : ℕ) (s : Places) (ys zs : List Call) → map (λ c. c .key) ys ≡ map (λ c. c .key) zs → from key i s ys ≡ from key i s zs
 unfolding readUntil
@@ -193,3 +189,13 @@ module _ (half : Half) where
 
 pub opening-fetches-none : claim.OpeningFetchesNone
 opening-fetches-none ys s wanted = past ys
+
+pub nothing-is-read-for-key-zero : claim.NothingIsReadForKeyZero
+nothing-is-read-for-key-zero ys act = (unread, fetches act)
+  where
+    unread : placesIn ys 0 ≡ placesAtStart 0
+    unread = stays 0 0 (placesAtStart 0) ys refl
+
+    fetches : (act : Act) → fetchedFrom ys (neededBy (length ys) (placesIn ys 0) act) ≡ Nothing
+    fetches (Opens wanted) = past ys
+    fetches (Meets event) = ap (λ (s : Places). fetchedFrom ys (neededBy (length ys) s (Meets event))) unread ∙ past ys

@@ -1,4 +1,4 @@
--- Two wrong answers of each public function of call_table. Each theorem speaks of the function's contract as the
+-- Wrong answers of each public function of call_table, two at the least. Each theorem speaks of the function's contract as the
 -- prover makes it from the source: that its `ensures` holds of the wrong answer, with any value where a variable stands,
 -- is false. Assumes nothing.
 use Prim.Native.Nat.{ℕ}
@@ -181,7 +181,7 @@ module _ {M : Type 1} (𝓤 : URA M) (H : Heap 𝓤) (A : Atoms 𝓤) (memory : 
       let z : _≡_ {A = ℕ} 1 _ = ap (λ (ys : List Call). stateNumber (getD ys 0 emptied .state)) (h .1) in
       omega arith)
 
-  -- the search may stop at the first empty record only if 103 needs no more (02, Ask 4): the key may stand behind it
+  -- the search may not stop at the first empty record (02, Ask 4): 103 needs the keys behind it
   pub search-ends-at-the-first-empty-record :
       (signals : List Signal) (left : List Call) →
       handle-fit-shuts-out (emptied ∷ idle 7 ∷ []) 7 (Opens Unnamed) (answering WasDone signals) left

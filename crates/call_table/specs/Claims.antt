@@ -21,7 +21,7 @@ use Rattle.call.specs.Events.{Half, handledAt}
 use Rattle.call.specs.Record.{emptied, openedFor}
 use Rattle.call.specs.declared.Call.{Call}
 use Rattle.call_table.specs.Fit.{fitTable}
-use Rattle.call_table.specs.Reading.{decideAtOf, fetchedFrom, neededBy, placesIn}
+use Rattle.call_table.specs.Reading.{decideAtOf, fetchedFrom, neededBy, placesAtStart, placesIn}
 use Rattle.call_table.specs.Table.{ranFitOf, ranOf, tableFitOf, tableOf}
 use Rattle.call_table.specs.declared.Found.the-variants.{Nothing}
 use Rattle.call_table.specs.declared.Places.{Places}
@@ -190,19 +190,21 @@ module _ (half : Half) where
   abbrev pub StaysFit : Type 0
   StaysFit = (ys : List Call) (key : ℕ) (act : Act) → FitTable ys → FitTable (tableOf half ys key act)
 
--- 02, Ask 4, of the search without the check: what stands behind the record with the key has no say in it
+-- 02, Ask 4, of the search without the check, as `look` and `fetch` make it: what stands behind the record with the key has no say in it.
+-- (That it is not loaded either no contract can say: `./measure reads` counts the loads.)
 abbrev pub NothingBehindIsRead : Type 0
 NothingBehindIsRead = (xs ys zs : List Call) (c : Call) → placesIn (xs ++ (c ∷ ys)) (c .key) ≡ placesIn (xs ++ (c ∷ zs)) (c .key)
 
--- for key 0 no record has
+-- For key 0 no record has a say in the search, and none is fetched.
 abbrev pub NothingIsReadForKeyZero : Type 0
-NothingIsReadForKeyZero = (ys zs : List Call) → placesIn ys 0 ≡ placesIn zs 0
+NothingIsReadForKeyZero =
+    (ys : List Call) (act : Act) → (placesIn ys 0 ≡ placesAtStart 0) × (fetchedFrom ys (neededBy (length ys) (placesIn ys 0) act) ≡ Nothing)
 
--- nor has anything of a record but its key
+-- Of a record nothing but its key has a say in the search.
 abbrev pub KeysAloneAreRead : Type 0
 KeysAloneAreRead = (ys zs : List Call) (key : ℕ) → map (λ c. c .key) ys ≡ map (λ c. c .key) zs → placesIn ys key ≡ placesIn zs key
 
--- and for an opening no record is fetched
+-- For an opening no record is fetched, whatever the search has found.
 abbrev pub OpeningFetchesNone : Type 0
 OpeningFetchesNone = (ys : List Call) (s : Places) (wanted : Wanted) → fetchedFrom ys (neededBy (length ys) s (Opens wanted)) ≡ Nothing
 

@@ -290,7 +290,8 @@ fn look_start(key: u32) -> Places
     }
 }
 
-// Nothing more of the row is needed: key 0 is refused in any case, and of the record with the key there is only one.
+// Nothing more of the row is needed: key 0 is refused in any case, and once the lowest record with the key is known neither a later one nor
+// an empty one is asked for.
 fn enough(s: Places, key: u32) -> bool
     ensures { λ r. ⌜ r ≡ isEnough s key ⌝ }
 {
@@ -433,6 +434,7 @@ fn filled(place: Place, fetched: Found) -> Found
     }
 }
 
+// Decided of the places and of what was fetched, as of the whole row.
 fn decide_at(n: usize, s: Places, fetched: Found, key: u32, asked: NodeAct) -> Ran
     ensures { λ r. ⌜ r ≡ decideAtOf (halfOf (asked .node)) n s fetched key (asked .act) ⌝ }
 {
@@ -472,7 +474,8 @@ pub fn handle(t: &mut [Call], key: u32, asked: NodeAct) -> Done
     d.done
 }
 
-// The same without the check of the table, for a row that is known to be fit: the keys are read, and of an event the record.
+// The same without the check of the table, for a row that is known to be fit: it reads the keys, no further than need be, and for an event
+// its record.
 pub fn handle_fit(t: &mut [Call], key: u32, asked: NodeAct) -> Done
     ensures { λ r. ⌜ (r ≡ ranFitOf (halfOf (asked .node)) (now (t .entry)) key (asked .act) .done)
         × (now (t .exit) ≡ tableFitOf (halfOf (asked .node)) (now (t .entry)) key (asked .act)) ⌝ }

@@ -1,6 +1,6 @@
 -- A reading of a lent slice from its first record to its last, whatever else is done with each record before it is counted in:
 --     let mut s = start(a); let mut i = 0; while i < t.len() { let c = t[i]; …; s = step(s, a, i, c); i += 1; } s
--- Fold and Survey are walks over this body. What stands at the dots (`besides`) may keep something of its own from turn to turn, and
+-- Survey is a walk over this body. What stands at the dots (`besides`) may keep something of its own from turn to turn, and
 -- what stands in memory beside the reading may depend on that.
 --     Loop         any record struct (S), argument (B), view (P), `start` and `step`, and the names by which they are called
 --     body         the MIR, where p more parameters stand behind the argument.        localsOf, locals     its locals, and their blocks

@@ -3,7 +3,7 @@ use mathlib.Core.Path.{_≡_, refl, sym, _∙_, ap, subst}
 use Prim.Native.Nat.{ℕ, _+_, _<_}
 use native.Mathlib.Numerals.{add-one}
 use mathlib.Core.Bool.{Bool, cond, false, not, true}
-use mathlib.Core.List.{List, [], _∷_}
+use mathlib.Core.List.{List}
 use lib.ListN.{length, getD, drop}
 use lib.Seq.{drop-cons, drop-length}
 use lib.Dec.{T}
@@ -27,21 +27,18 @@ pub no-is : (t : Bool) → T (not t) → t ≡ false
 no-is true a = absurd a
 no-is false _ = refl
 
--- what is known from i on: where there is a record at i and no more is needed, where there is one and more is, and at the end
+-- what is known from i on: where there is a record at i, by whether more is needed; and at the end
 module _ {X Y : Type 0} (enough : Y → Bool) (step : Y → ℕ → X → Y) (ys : List X) (d : X) (i : ℕ) (v : Y) where
   abbrev onward : Y
   onward = readUntil enough step i v (drop i ys)
 
-  one-more : i < length ys → onward ≡ cond (enough v) v (readUntil enough step (i + 1) (step v i (getD ys i d)) (drop (i + 1) ys))
+  abbrev further : Y
+  further = readUntil enough step (i + 1) (step v i (getD ys i d)) (drop (i + 1) ys)
+
+  pub until-at : i < length ys → (b : Bool) → enough v ≡ b → onward ≡ cond b v further
   unfolding readUntil
-  one-more l = ap (readUntil enough step i v) (drop-cons ys i d l) ∙ ap (λ (n : ℕ). cond (enough v) v
-      (readUntil enough step (i + 1) (step v i (getD ys i d)) (drop n ys))) (sym (add-one i))
-
-  pub stopped-at : i < length ys → enough v ≡ true → onward ≡ v
-  stopped-at l e = one-more l ∙ ap (λ (b : Bool). cond b v (readUntil enough step (i + 1) (step v i (getD ys i d)) (drop (i + 1) ys))) e
-
-  pub further-at : i < length ys → enough v ≡ false → onward ≡ readUntil enough step (i + 1) (step v i (getD ys i d)) (drop (i + 1) ys)
-  further-at l e = one-more l ∙ ap (λ (b : Bool). cond b v (readUntil enough step (i + 1) (step v i (getD ys i d)) (drop (i + 1) ys))) e
+  until-at l b e = ap (readUntil enough step i v) (drop-cons ys i d l) ∙ (ap (λ (n : ℕ). cond (enough v) v
+      (readUntil enough step (i + 1) (step v i (getD ys i d)) (drop n ys))) (sym (add-one i)) ∙ ap (λ (b : Bool). cond b v further) e)
 
   pub ended-at : i ≡ length ys → onward ≡ v
   unfolding readUntil

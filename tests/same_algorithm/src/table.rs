@@ -24,8 +24,8 @@ pub struct Reply {
     pub signals: Signals,
 }
 
-/// What one reading tells: that every record is fit by itself, and the places of the record with
-/// the key and of the lowest empty one.
+/// What one reading tells: that every record is fit by itself, where that is looked at, and the
+/// places of the record with the key and of the lowest empty one.
 struct Seen {
     sound: bool,
     found: Option<usize>,
