@@ -1,7 +1,7 @@
 -- The keys of a list, set one by one in a list of numbers that is long enough: its first numbers are they, in order.
 --     keys-length      the list of numbers stays as long as it was.        keys-are     its first `length ys` numbers are the keys of ys
 use mathlib.Core.Path.{_≡_, refl, sym, _∙_, ap}
-use Prim.Native.Nat.{ℕ, suc, _+_, _≤_, _<_}
+use Prim.Native.Nat.{ℕ, _+_, _≤_, _<_}
 use native.Mathlib.Nat.{add-zero}
 use native.Mathlib.Numerals.{add-one}
 use native.Mathlib.Omega.{arith}

@@ -2,7 +2,8 @@
 --     while i < t.len() { let c = t[i]; … }
 -- where t is the first parameter. Its two ways are the record's, and the end's.
 --     Six          the locals of a turn: i, c, and four for the reading. Their numbers, and their blocks
---     turning      the MIR.        turns        the law.        Nearer       what is left falls
+--     testing, tests       the test of i alone: MIR and law.        turning, turns       with the record read
+--     Nearer       what is left falls
 -- Assumes `Given`.
 use mathlib.Core.Path.{_≡_, refl}
 use Prim.Native.Nat.{ℕ, _-_, _≤_, _<_}
@@ -57,14 +58,19 @@ module _ (S : Row) where
     pub Nearer-wf : WellFounded Nearer
     Nearer-wf = InvImage·wf (λ (i : V₀). length (t .ys) - index i) (Nat·lt-wfRel .wf)
 
+  -- the loop's test: it is left at the end
+  abbrev pub testing : ℕ → ℕ → ℕ → Body → Body
+  testing index count test rest = seq (assign (place count []) (rvOpd (copy (place 1 (field 1 ∷ [])))))
+      (seq (assign (place test []) (op2 (lt unsigned) (copy (place index [])) (copy (place count []))))
+      (seq (cond (copy (place test [])) skip (exit 1))
+      rest))
+
   abbrev pub turning : Six → Body → Body
-  turning p rest = seq (assign (place (p .count) []) (rvOpd (copy (place 1 (field 1 ∷ [])))))
-      (seq (assign (place (p .test) []) (op2 (lt unsigned) (copy (place (p .index) [])) (copy (place (p .count) []))))
-      (seq (cond (copy (place (p .test) [])) skip (exit 1))
+  turning p rest = testing (p .index) (p .count) (p .test)
       (pointing S (three (p .index) (p .count) (p .pointer))
       (seq (assign (place (p .read) []) (rvOpd (copy (place (p .pointer) (deref (tyOf S) ∷ [])))))
       (seq (assign (place (p .got) []) (rvOpd (copy (place (p .read) []))))
-      rest)))))
+      rest)))
 
   module _ {M : Type 1} (𝓤 : URA M) (H : Heap 𝓤) (E : Env 𝓤 H) (p l : Six) where
     -- the locals of the turn stand at their blocks
@@ -93,6 +99,35 @@ module _ (S : Row) where
     abbrev pub some-at : ℕ → Item 𝓤
     some-at i = ‵ (fat fullShare (tyOf S) (l .got) 0 (Rec.mach S (the i)))
 
+  module _ {M : Type 1} (𝓤 : URA M) (H : Heap 𝓤) (A : Atoms 𝓤) (W : Given 𝓤 H A) (𝓣 : Tables 𝓤 H) (t : Lent S) (e₀ : Ty × ℕ) (l₁ : ℕ)
+      (E₁ : Env 𝓤 H) where
+    abbrev Es : Env 𝓤 H
+    Es = e₀ ∷ (slice S, l₁) ∷ E₁
+
+    -- [t; i; the count; the test], and what stands beside them
+    abbrev Tested : ℕ → ℕ → ℕ → ℕ → List (Item 𝓤) → List (Item 𝓤)
+    Tested li ln lb i Δ = ‵ (fat fullShare (slice S) l₁ 0 (val S t)) ∷ ‵ (fat fullShare (tyInt w64) li 0 (vint w64 i))
+        ∷ ‵ (froom (tyInt w64) ln 0) ∷ ‵ (froom tyBool lb 0) ∷ Δ
+
+    pub tests : (index count test li ln lb : ℕ)
+        → (spotOf 𝓤 H Es index ≡ (tyInt w64, li, 0)) × (spotOf 𝓤 H Es count ≡ (tyInt w64, ln, 0)) × (spotOf 𝓤 H Es test ≡ (tyBool, lb, 0))
+        → (i : ℕ) (rest : Body) (Q : Post 𝓤 H) (Δ : List (Item 𝓤))
+        → (i < length (t .ys) → Sq W (Tested li ln lb i Δ) (runs (𝓣 .C) (𝓣 .Λ) Es rest Q))
+        → (length (t .ys) ≤ i → Sq W (Tested li ln lb i Δ) (prop (post 𝓤 H Q (exits 1))))
+        → Sq W (Tested li ln lb i Δ) (runs (𝓣 .C) (𝓣 .Λ) Es (testing index count test rest) Q)
+    tests index count test li ln lb st i rest Q Δ on off =
+        assigns ! (of-opd ! (load ! (from ! (fld ! refl (stop !))) (look-in ! 0 (sub ! 1 refl (whole !))))) (at ! (st .1) (stop !))
+        (init ! 2 refl (tt, record { fits = t .roomy .0 })) $
+        assigns ! (bin ! (load ! (at ! (st .0) (stop !)) (look ! 1 refl)) (load ! (at ! (st .1) (stop !)) (look ! 2 refl)) tt)
+        (at ! (st .2) (stop !)) (init ! 3 refl (tt, tt)) $
+        by-test (ltb i (length (t .ys))) (λ yes-less.
+        rewrite ! 3 (λ (y : Bool). ‵ (fat fullShare tyBool lb 0 (vbool y))) yes-less refl $
+        stays ! (load ! (at ! (st .2) (stop !)) (look ! 3 refl)) $ forget ! 2 refl $ forget ! 3 refl $
+        on (ltb→lt i (length (t .ys)) (is-true (ltb i (length (t .ys))) yes-less)))
+        (λ no-less. rewrite ! 3 (λ (y : Bool). ‵ (fat fullShare tyBool lb 0 (vbool y))) no-less refl $
+        leaves-loop ! (load ! (at ! (st .2) (stop !)) (look ! 3 refl)) $
+        forget ! 2 refl $ forget ! 3 refl $ off (nltb→le i (length (t .ys)) (is-false (ltb i (length (t .ys))) no-less)))
+
   module _ {M : Type 1} (𝓤 : URA M) (H : Heap 𝓤) (A : Atoms 𝓤) (W : Given 𝓤 H A) (𝓣 : Tables 𝓤 H) (any : S .type .D) (t : Lent S)
       (e₀ : Ty × ℕ) (l₁ : ℕ) (E₁ : Env 𝓤 H) (p l : Six) where
     abbrev E : Env 𝓤 H
@@ -109,24 +144,16 @@ module _ (S : Row) where
         → (length (t .ys) ≤ i → Sq W (At i (none 𝓤 any t l₁ l) Δ) (prop (post 𝓤 H Q (exits 1)))) → Sq W (At i (none 𝓤 any t l₁ l) Δ)
         (runs (𝓣 .C) (𝓣 .Λ) E (turning p rest) Q)
     turns st i rest Q Δ on off =
-        assigns ! (of-opd ! (load ! (from ! (fld ! refl (stop !))) (look-in ! 2 (sub ! 1 refl (whole !))))) (at ! (st .2) (stop !))
-        (init ! 5 refl (tt, record { fits = t .roomy .0 })) $
-        assigns ! (bin ! (load ! (at ! (st .0) (stop !)) (look ! 3 refl)) (load ! (at ! (st .2) (stop !)) (look ! 5 refl)) tt)
-        (at ! (st .3) (stop !)) (init ! 6 refl (tt, tt)) $
-        by-test (ltb i (length (t .ys))) (λ yes-less.
-        let less : i < length (t .ys) = ltb→lt i (length (t .ys)) (is-true (ltb i (length (t .ys))) yes-less) in
-        rewrite ! 6 (λ (y : Bool). ‵ (fat fullShare tyBool (l .test) 0 (vbool y))) yes-less refl $
-        stays ! (load ! (at ! (st .3) (stop !)) (look ! 6 refl)) $ forget ! 5 refl $ forget ! 6 refl $
-        move ! (0 ∷ 1 ∷ 2 ∷ 3 ∷ 5 ∷ 7 ∷ []) $
+        move ! (2 ∷ 3 ∷ 5 ∷ 6 ∷ []) $
+        tests 𝓤 H A W 𝓣 t e₀ l₁ E₁ (p .index) (p .count) (p .test) (l .index) (l .count) (l .test) (st .0, st .2, st .3) i _ Q _
+        (λ less. move ! (4 ∷ 5 ∷ 0 ∷ 1 ∷ 2 ∷ 7 ∷ []) $
         takes-out S 𝓤 H A W 𝓣 any t e₀ l₁ E₁ (three (p .index) (p .count) (p .pointer)) (three (l .index) (l .count) (l .pointer)) i less
         (st .0, st .2, st .4) _ Q _ (λ q′ g.
-        -- [t[i]; what it owns; the others; what shuts; the fractured borrow; what t owns; t; i; the count; the pointer; c; the test; …]
+        -- [t[i]; what it owns; the others; what shuts; the fractured borrow; what t owns; t; i; the count; the pointer; the test; c; …]
         assigns ! (of-opd ! (load ! (at ! (st .4) (hop ! (look ! 9 refl) (stop !))) (look-raw ! 0 refl))) (at ! (st .5) (stop !))
         (init ! 12 refl (LL.lawful (S .type) (S .laws) 𝓤 H A W .typed (c i) _ g .0)) $
         assigns ! (of-opd ! (load ! (at ! (st .5) (stop !)) (look ! 12 refl))) (at ! (st .1) (stop !))
-        (init ! 10 refl (LL.lawful (S .type) (S .laws) 𝓤 H A W .typed (c i) _ g .0)) $
+        (init ! 11 refl (LL.lawful (S .type) (S .laws) 𝓤 H A W .typed (c i) _ g .0)) $
         puts-back S 𝓤 H A W 𝓣 any t e₀ l₁ E₁ (three (p .index) (p .count) (p .pointer)) (three (l .index) (l .count) (l .pointer)) i less
-        rest Q _ q′ (move ! (0 ∷ 1 ∷ 2 ∷ 3 ∷ 6 ∷ 4 ∷ 7 ∷ 5 ∷ 8 ∷ []) $ forget ! 8 refl $ on less g)))
-        (λ no-less. rewrite ! 6 (λ (y : Bool). ‵ (fat fullShare tyBool (l .test) 0 (vbool y))) no-less refl $
-        leaves-loop ! (load ! (at ! (st .3) (stop !)) (look ! 6 refl)) $
-        forget ! 5 refl $ forget ! 6 refl $ off (nltb→le i (length (t .ys)) (is-false (ltb i (length (t .ys))) no-less)))
+        rest Q _ q′ (move ! (0 ∷ 1 ∷ 2 ∷ 3 ∷ 7 ∷ 4 ∷ 6 ∷ 5 ∷ 8 ∷ []) $ forget ! 8 refl $ on less g)))
+        (λ over. move ! (4 ∷ 5 ∷ 0 ∷ 1 ∷ 6 ∷ 2 ∷ 3 ∷ 7 ∷ 8 ∷ []) $ off over)
