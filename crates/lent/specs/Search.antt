@@ -1,5 +1,5 @@
--- What a walk over a list finds: the first element with a key; what is known after reading every element once, or until it is enough; and the
--- element at a place. For any list, any way to read the key, and any answer. Assumes nothing.
+-- What a walk over a list finds: the first element with a key; what is known after reading every element once, or until it is enough; and
+-- the element at a place. For any list, any way to read the key, and any answer. Assumes nothing.
 use Prim.Native.Nat.{ℕ, _+_}
 use lib.Dec.{eqb, ltb}
 use lib.ListN.{getD, length, set}

@@ -1,9 +1,9 @@
 // Cases from standard input, a table of an end's calls and an event each, and what becomes of each, printed (docs/TABLES.md): the programs
 // `tables` and `destination_tables`.
 //
-// An entry of call_table decides each case, on exactly as many records as it has: `handle64` those of 64, `handle` those of any other number,
-// and `handle_fit` those that are not to be checked; the rest is reading and printing. `octets` reads a case, `first` gives its records to
-// the entry, and `print` says what came of it.
+// An entry of call_table decides each case, on exactly as many records as it has: `handle64` those of 64, `handle` those of any other
+// number, and `handle_fit` those that are not to be checked; the rest is reading and printing. `octets` reads a case, `first` gives its
+// records to the entry, and `print` says what came of it.
 mod first;
 mod octets;
 mod print;
