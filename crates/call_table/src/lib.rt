@@ -107,11 +107,10 @@ fn within(last: u16, number: u16) -> bool
 fn both_within(last: u16, incumbent: u16, rerouting: u16) -> bool
     ensures { λ r. ⌜ r ≡ fitHeld last (SoftProceeding incumbent rerouting) ⌝ }
 {
-    if incumbent == rerouting {
-        return false;
-    }
     if within(last, incumbent) {
-        return within(last, rerouting);
+        if within(last, rerouting) {
+            return incumbent != rerouting;
+        }
     }
     false
 }
