@@ -2,13 +2,12 @@
 
 use crate::event_fault::fault;
 use crate::event_record::{decode, encode, EVENT_OCTETS};
+use crate::sample_tables::NODES;
 use crate::vocabulary::Node;
 use crate::words::EventWords;
 use crate::{cells, list, script};
 
 const TRIGGER: [u8; EVENT_OCTETS] = [1, 0, 0, 0, 0, 0, 0, 7, 0, 0, 0, 0, 0, 0, 0, 0];
-
-const NODES: [Node; 2] = [Node::Source, Node::Destination];
 
 fn listed(node: Node, octets: &[u8]) -> (String, Option<String>) {
     let mut out = Vec::new();

@@ -87,6 +87,8 @@ mod list_text;
 #[cfg(test)]
 mod promises;
 #[cfg(test)]
+mod sample_tables;
+#[cfg(test)]
 mod setups_in_progress;
 #[cfg(test)]
 mod table_refusals;

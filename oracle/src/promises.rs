@@ -4,11 +4,10 @@
 
 use crate::call::{Call, Outcome, Soft, State};
 use crate::cells;
+use crate::sample_tables::NODES;
 use crate::vocabulary::{
     Answer, Event, Node, ReroutingCause, SentCause, Signal, SignalKind, SwitchoverCode, SILENT,
 };
-
-const NODES: [Node; 2] = [Node::Source, Node::Destination];
 
 /// A record, what it meets and what becomes of it. The words of a failing check name the cell.
 #[derive(Clone, Copy, Debug)]

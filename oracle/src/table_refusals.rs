@@ -2,12 +2,10 @@
 //! of 01, and the order of the checks where two apply.
 
 use crate::call::{Call, Soft, State};
+use crate::sample_tables::{call, idle, idle_calls, NODES, OPENING, PATH_FOUND, TRIGGER};
 use crate::table::{meet, meet_unchecked, Reply, Request, CAUSES_OF_UNFITNESS};
 use crate::vocabulary::{Crankback, DomainRelease, Event, Node, Policy, SwitchoverCode, SILENT};
 
-const OPENING: Request = Request::Opening(None);
-const TRIGGER: Request = Request::Event(Event::Trigger);
-const PATH_FOUND: Request = Request::Event(Event::PathFound);
 const READY: Request = Request::Event(Event::Ready);
 const CONNECT_9: Request = Request::Event(Event::Connect { connection: 9, policy: Policy::Yes });
 const RELEASE_9: Request = Request::Event(Event::FromDomain(DomainRelease {
@@ -17,21 +15,6 @@ const RELEASE_9: Request = Request::Event(Event::FromDomain(DomainRelease {
 }));
 
 const MANY: u16 = u16::MAX;
-
-const NODES: [Node; 2] = [Node::Source, Node::Destination];
-
-fn call(key: u32, state: State, last: u16) -> Call {
-    Call { key, hard: true, soft: Soft::Symmetric, state, last, remote: 0 }
-}
-
-fn idle(key: u32) -> Call {
-    call(key, State::ReroutingIdle { incumbent: 1 }, 1)
-}
-
-/// Calls with the keys from 1 up, all of them Idle.
-fn idle_calls(count: u32) -> Vec<Call> {
-    (1..=count).map(idle).collect()
-}
 
 fn answer_at(node: Node, table: &[Call], key: u32, request: Request) -> u8 {
     let mut after = table.to_vec();

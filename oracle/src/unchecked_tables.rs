@@ -4,34 +4,17 @@
 
 use crate::call::{Call, Services, Soft, State};
 use crate::cells;
+use crate::sample_tables::{call, idle, idle_calls, NODES, OPENING, PATH_FOUND, TRIGGER};
 use crate::table::{meet, meet_unchecked, unfit, Reply, Request, CAUSES_OF_UNFITNESS};
 use crate::vocabulary::{
     Answer, Crankback, DomainRelease, Event, Node, Policy, SwitchoverCode, SILENT,
 };
 use crate::words::SignalWords;
 
-const NODES: [Node; 2] = [Node::Source, Node::Destination];
-
-const OPENING: Request = Request::Opening(None);
-const TRIGGER: Request = Request::Event(Event::Trigger);
-const PATH_FOUND: Request = Request::Event(Event::PathFound);
 const FROM_PARTY: Request = Request::Event(Event::FromParty { cause: None });
 
 /// The answer, the places whose records changed with these records, and the signals.
 type Shown = (u8, Vec<(usize, String)>, String);
-
-fn call(key: u32, state: State, last: u16) -> Call {
-    Call { key, hard: true, soft: Soft::Symmetric, state, last, remote: 0 }
-}
-
-fn idle(key: u32) -> Call {
-    call(key, State::ReroutingIdle { incumbent: 1 }, 1)
-}
-
-/// Calls with the keys from 1 up, all of them Idle.
-fn idle_calls(count: u32) -> Vec<Call> {
-    (1..=count).map(idle).collect()
-}
 
 fn release(connection: u16) -> Request {
     let crankback = Crankback::None;

@@ -6,10 +6,9 @@ use std::collections::BTreeMap;
 use super::{inputs, write, MOST_RECORDS};
 use crate::event_fault::fault;
 use crate::event_record::EVENT_OCTETS;
+use crate::sample_tables::NODES;
 use crate::trace;
 use crate::vocabulary::Node;
-
-const NODES: [Node; 2] = [Node::Source, Node::Destination];
 
 /// The ways of 01, "The trace", to print `bad`: the event's number, or the kind and the octet that
 /// is not named, or a record cut short. The release from across the domain has two more than the

@@ -10,11 +10,10 @@ use super::{case, maker, record_count, table};
 use crate::call::Call;
 use crate::draw::Draw;
 use crate::event_record::{decode, EventRecord};
+use crate::sample_tables::NODES;
 use crate::table::{meet, meet_unchecked, unfit, Reply, Request, CAUSES_OF_UNFITNESS};
 use crate::tables;
 use crate::vocabulary::{Answer, Node, SILENT};
-
-const NODES: [Node; 2] = [Node::Source, Node::Destination];
 
 const COUNTS: [usize; 12] = [0, 1, 2, 3, 4, 5, 8, 64, 1_023, 1_024, 1_025, 1_100];
 

@@ -8,13 +8,12 @@ use super::write;
 use crate::call::{Call, Soft, State};
 use crate::cells;
 use crate::event_record::{decode, EventRecord};
+use crate::sample_tables::NODES;
 use crate::table::{meet, unfit, Request};
 use crate::trace;
 use crate::trace_table::TraceTable;
 use crate::vocabulary::{Event, Node, SentCause, Signals};
 use crate::words::EventWords;
-
-const NODES: [Node; 2] = [Node::Source, Node::Destination];
 
 fn made(node: Node, seed: u64, count: u64, last_is_bad: bool) -> Vec<u8> {
     let mut octets = Vec::new();
