@@ -47,6 +47,11 @@ sought-from key i s (c ∷ cs) =
     sought-from key (i + 1) (soughtOf s key i c) cs
     ∙ (λ j. record { found = one-more (s .found) key i c cs j; free = one-more (s .free) 0 i c cs j })
 
+-- what is found stays, whatever comes behind it
+pub found-stays : (key i : ℕ) (s : Sought) (ys : List Call) {j : ℕ} {c : Call} → s .found ≡ At j c
+    → readFrom (λ s i c. soughtOf s key i c) i s ys .found ≡ At j c
+found-stays key i s ys e = ap (λ (t : Sought). t .found) (sought-from key i s ys) ∙ ap (λ (f : Found). orFirst f (first key i ys)) e
+
 -- the record with the key is the first that has it, and the empty one the lowest
 pub sought-is : (ys : List Call) (key : ℕ) → soughtIn ys key ≡ record { found = first key 0 ys; free = first 0 0 ys }
 sought-is ys key = sought-from key 0 (soughtAtStart key) ys

@@ -2,13 +2,13 @@
 -- is what is decided of the whole row; and what is not read has no say in it. Assumes nothing.
 use Prim.Native.Nat.{_+_, ℕ}
 use native.Mathlib.Omega.{arith}
-use mathlib.Core.Bool.{Bool, _||_, cond, false, not, true, true≢false}
+use mathlib.Core.Bool.{Bool, _||_, cond, false, not, true}
 use mathlib.Core.List.{List, [], _++_, _∷_, map}
 use mathlib.Core.Path.{_∙_, _≡_, ap, refl, sym}
 use lib.Dec.{eqb}
 use lib.ListN.{length}
 use borrow.Author.Tests.{eq-eqb, le-ltb, lt-ltb}
-use Rattle.lent.specs.Search.{firstFrom, readUntil}
+use Rattle.lent.specs.Search.{readFrom, readUntil}
 use Rattle.signal.specs.declared.Answer.the-variants.{KeyZero}
 use Rattle.events.specs.declared.Act.{Act}
 use Rattle.events.specs.declared.Act.the-variants.{Meets, Opens}
@@ -17,14 +17,14 @@ use Rattle.call.specs.declared.Call.{Call}
 use Rattle.call_table.specs.Claims as claim
 use Rattle.call_table.specs.Reading.{decideAtOf, fetchedFrom, filledOf, isEnough, neededBy, notedOf, placesAtStart, placesIn, placesOf}
 use Rattle.call_table.specs.Reading.{isNowhere, placeOr, unreadAt}
-use Rattle.call_table.specs.Table.{decideFitOf, ranFitOf, refusedAt, soughtIn}
+use Rattle.call_table.specs.Table.{decideFitOf, laterOf, ranFitOf, refusedAt, soughtAtStart, soughtIn, soughtOf}
 use Rattle.call_table.specs.declared.Found.{Found}
 use Rattle.call_table.specs.declared.Found.the-variants.{At, Nothing}
 use Rattle.call_table.specs.declared.Place.{Place}
 use Rattle.call_table.specs.declared.Place.the-variants.{Here, Nowhere}
 use Rattle.call_table.specs.declared.Places.{Places}
 use Rattle.call_table.specs.declared.Sought.{Sought}
-use Rattle.call_table.proofs.Search.{first, found-at, sought-is}
+use Rattle.call_table.proofs.Search.{found-at, found-stays, sought-is}
 
 or-true : (b : Bool) → (b || true) ≡ true
 or-true true = refl
@@ -35,9 +35,9 @@ abbrev placeOf : Found → Place
 placeOf (At i c) = Here i
 placeOf Nothing = Nowhere
 
-abbrev orPlace : Place → Place → Place
-orPlace (Here j) p = Here j
-orPlace Nowhere p = p
+-- the reading of the whole row, with what is found before i
+abbrev sought : ℕ → ℕ → Sought → List Call → Sought
+sought key i s ys = readFrom (λ s i c. soughtOf s key i c) i s ys
 
 -- the reading, with what is known at i
 abbrev from : ℕ → ℕ → Places → List Call → Places
@@ -85,54 +85,48 @@ keys-alone-are-read ys zs key e = alone key 0 (placesAtStart key) ys zs e
 
 -- ---- what was read is enough
 
-or-nowhere : (p : Place) → p ≡ orPlace p Nowhere
-or-nowhere (Here j) = refl
-or-nowhere Nowhere = refl
+-- the places of what is sought
+abbrev placesAt : Sought → Places
+placesAt s = record { found = placeOf (s .found); free = placeOf (s .free) }
 
-one-more : (p : Place) (i : ℕ) (c : Call) (cs : List Call) → orPlace (notedOf p 0 i (c .key)) (placeOf (first 0 (i + 1) cs)) ≡ orPlace p
-    (placeOf (first 0 i (c ∷ cs)))
-unfolding firstFrom
-one-more (Here j) i c cs = refl
-one-more Nowhere i c cs = by-test (eqb (c .key) 0)
+-- a step of the one reading is a step of the other, seen by the places alone
+noted-is : (f : Found) (key i : ℕ) (c : Call) → notedOf (placeOf f) key i (c .key) ≡ placeOf (laterOf f key i c)
+noted-is (At j d) key i c = refl
+noted-is Nothing key i c = by-test (eqb (c .key) key)
   where
-    by-test : (b : Bool) → orPlace (cond b (Here i) Nowhere) (placeOf (first 0 (i + 1) cs)) ≡ placeOf (cond b (At i c) (first 0 (i + 1) cs))
+    by-test : (b : Bool) → cond b (Here i) Nowhere ≡ placeOf (cond b (At i c) Nothing)
     by-test true = refl
     by-test false = refl
+
+step-is : (s : Sought) (key i : ℕ) (c : Call) → placesOf (placesAt s) key i (c .key) ≡ placesAt (soughtOf s key i c)
+step-is s key i c = λ j. record { found = noted-is (s .found) key i c j; free = noted-is (s .free) 0 i c j }
 
 never : {i : ℕ} {c : Call} → At i c ≡ Nothing → ⊥
 never e = let z : _≡_ {A = ℕ} 0 1 = cc in omega arith
 
--- what is known of a row: where its first record with the key stands, and, if it has none, its lowest empty one
-record Tells (key i : ℕ) (free : Place) (ys : List Call) (s : Places) : Type 0 where
-  found-is : s .found ≡ placeOf (first key i ys)
-  free-is : first key i ys ≡ Nothing → s .free ≡ orPlace free (placeOf (first 0 i ys))
+-- what is known of a row: where its record with the key stands, and, if it has none, its lowest empty one
+record Tells (whole : Sought) (s : Places) : Type 0 where
+  found-is : s .found ≡ placeOf (whole .found)
+  free-is : whole .found ≡ Nothing → s .free ≡ placeOf (whole .free)
 
-tells : (key i : ℕ) (free : Place) (ys : List Call) → eqb key 0 ≡ false
-    → Tells key i free ys (from key i (record { found = Nowhere; free = free }) ys)
-unfolding readUntil firstFrom
-tells key i free [] z = record { found-is = refl; free-is = λ _. or-nowhere free }
-tells key i free (c ∷ cs) z = by-zero (eqb key 0) z (by-test (eqb (c .key) key) (tells key (i + 1) (notedOf free 0 i (c .key)) cs z))
+tells : (key i : ℕ) (s : Sought) (ys : List Call) → eqb key 0 ≡ false → Tells (sought key i s ys) (from key i (placesAt s) ys)
+unfolding readUntil readFrom
+tells key i s [] z = record { found-is = refl; free-is = λ _. refl }
+tells key i s (c ∷ cs) z = by-found (s .found) refl (tells key (i + 1) (soughtOf s key i c) cs z)
   where
-    after : Bool → Places
-    after b = record { found = cond b (Here i) Nowhere; free = notedOf free 0 i (c .key) }
-
-    firstly : Bool → Found
-    firstly b = cond b (At i c) (first key (i + 1) cs)
-
-    by-test : (b : Bool) → Tells key (i + 1) (notedOf free 0 i (c .key)) cs (from key (i + 1) (after false) cs)
-        → (from key (i + 1) (after b) cs .found ≡ placeOf (firstly b))
-        × (firstly b ≡ Nothing → from key (i + 1) (after b) cs .free ≡ orPlace free (placeOf (first 0 i (c ∷ cs))))
-    by-test true h = (ap (λ (s : Places). s .found) (stays key (i + 1) (after true) cs (or-true (eqb key 0))), λ e. absurd (never e))
-    by-test false h = (h .found-is, λ e. h .free-is e ∙ one-more free i c cs)
-
-    by-zero : (b : Bool) → b ≡ false
-        → (from key (i + 1) (after (eqb (c .key) key)) cs .found ≡ placeOf (firstly (eqb (c .key) key)))
-        × (firstly (eqb (c .key) key) ≡ Nothing
-        → from key (i + 1) (after (eqb (c .key) key)) cs .free ≡ orPlace free (placeOf (first 0 i (c ∷ cs))))
-        → Tells key i free (c ∷ cs) (cond (b || false) (record { found = Nowhere; free = free })
-        (from key (i + 1) (after (eqb (c .key) key)) cs))
-    by-zero true e h = absurd (true≢false e)
-    by-zero false e h = record { found-is = h .0; free-is = h .1 }
+    by-found : (f : Found) → s .found ≡ f
+        → Tells (sought key (i + 1) (soughtOf s key i c) cs) (from key (i + 1) (placesAt (soughtOf s key i c)) cs)
+        → Tells (sought key i s (c ∷ cs)) (from key i (placesAt s) (c ∷ cs))
+    by-found (At j d) e h =
+        let enough : isEnough (placesAt s) key ≡ true = rw (z, e) in
+        let k = stays key i (placesAt s) (c ∷ cs) enough in
+        let found = found-stays key i s (c ∷ cs) e in
+        record { found-is = ap (λ (t : Places). t .found) k ∙ ap placeOf (e ∙ sym found); free-is = λ q. absurd (never (sym found ∙ q)) }
+    by-found Nothing e h =
+        let more : isEnough (placesAt s) key ≡ false = rw (z, e) in
+        let k = ap (λ (b : Bool). cond b (placesAt s) (from key (i + 1) (placesOf (placesAt s) key i (c .key)) cs)) more
+        ∙ ap (λ (t : Places). from key (i + 1) t cs) (step-is s key i c) in
+        record { found-is = ap (λ (t : Places). t .found) k ∙ h .found-is; free-is = λ q. ap (λ (t : Places). t .free) k ∙ h .free-is q }
 
 -- the record that is fetched: an event's is the one that is found, and for an opening none is
 abbrev FetchedFor : Act → Found → Found → Type 0
@@ -142,14 +136,14 @@ FetchedFor (Meets e) f h = h ≡ f
 past : (ys : List Call) → fetchedFrom ys (length ys) ≡ Nothing
 past ys = rw (le-ltb (length ys) (length ys) (omega arith))
 
-fetched-for : (ys : List Call) (key : ℕ) (act : Act) (s : Places) → s .found ≡ placeOf (first key 0 ys)
-    → FetchedFor act (first key 0 ys) (fetchedFrom ys (neededBy (length ys) s act))
+fetched-for : (ys : List Call) (key : ℕ) (act : Act) (s : Places) → s .found ≡ placeOf (soughtIn ys key .found)
+    → FetchedFor act (soughtIn ys key .found) (fetchedFrom ys (neededBy (length ys) s act))
 fetched-for ys key (Opens wanted) s e = past ys
-fetched-for ys key (Meets event) s e = by-found (first key 0 ys) refl e
+fetched-for ys key (Meets event) s e = by-found (soughtIn ys key .found) refl e
   where
-    by-found : (f : Found) → first key 0 ys ≡ f → s .found ≡ placeOf f → fetchedFrom ys (neededBy (length ys) s (Meets event)) ≡ f
+    by-found : (f : Found) → soughtIn ys key .found ≡ f → s .found ≡ placeOf f → fetchedFrom ys (neededBy (length ys) s (Meets event)) ≡ f
     by-found (At j c) q p =
-        let r = found-at key 0 j c ys q in
+        let r = found-at key 0 j c ys (sym (ap (λ (t : Sought). t .found) (sought-is ys key)) ∙ q) in
         let at : j ≡ r .place = omega (arith, r .at) in
         rw (p, at, lt-ltb (r .place) (length ys) (r .inside), r .there)
     by-found Nothing q p = rw p (past ys)
@@ -174,18 +168,17 @@ module _ (half : Half) where
       fetched : Found
       fetched = fetchedFrom ys (neededBy (length ys) (placesIn ys key) act)
 
-      sought : Sought
-      sought = record { found = filledOf (placesIn ys key .found) fetched; free = unreadAt (placesIn ys key .free) }
+      told : Sought
+      told = record { found = filledOf (placesIn ys key .found) fetched; free = unreadAt (placesIn ys key .free) }
 
       by-zero : (b : Bool) → eqb key 0 ≡ b
           → decideAtOf half (length ys) (placesIn ys key) (fetchedFrom ys (neededBy (length ys) (placesIn ys key) act)) key act
           ≡ ranFitOf half ys key act
-      by-zero true z = zero-refused (length ys) sought key act z ∙ sym (zero-refused (length ys) (soughtIn ys key) key act z)
+      by-zero true z = zero-refused (length ys) told key act z ∙ sym (zero-refused (length ys) (soughtIn ys key) key act z)
       by-zero false z =
-          let r = tells key 0 Nowhere ys z in
-          decided (length ys) key act (first key 0 ys) (first 0 0 ys) (placesIn ys key) _ z (r .found-is) (r .free-is)
+          let r = tells key 0 (soughtAtStart key) ys z in
+          decided (length ys) key act (soughtIn ys key .found) (soughtIn ys key .free) (placesIn ys key) _ z (r .found-is) (r .free-is)
           (fetched-for ys key act (placesIn ys key) (r .found-is))
-          ∙ ap (λ (s : Sought). decideFitOf half (length ys) s key act) (sym (sought-is ys key))
 
 pub opening-fetches-none : claim.OpeningFetchesNone
 opening-fetches-none ys s wanted = past ys
