@@ -176,7 +176,7 @@ module _ {M : Type 1} (𝓤 : URA M) (H : Heap 𝓤) (A : Atoms 𝓤) (memory : 
   abbrev kind-at-shuts-out : Node → ℕ → ℕ → Type 1
   kind-at-shuts-out node kind r = NeverHolds (kind_at.clauses 𝓤 H A memory run tt (node, (kind, tt)) .ensures tt r (node, (kind, tt)))
 
-  -- at the destination the calling release names a connection (Ask 2)
+  -- at the destination the calling release names a connection (02, Ask 2)
   pub destination-releases-as-the-source : kind-at-shuts-out Destination 6 6
   destination-releases-as-the-source = fact-mono 𝓤 _ _ (λ h. let z : _≡_ {A = ℕ} 6 7 = h in omega arith)
 

@@ -152,7 +152,7 @@ ReadBack =
     (node : Node) (key : ℕ) (act : Act) → Fits key act →
     decodedAt node (writtenAt node key act) ≡ record { key = key; request = Asks act }
 
--- Ask 2: at the destination a record says what it says at the source, but that the two releases change places.
+-- 02, Ask 2: at the destination a record says what it says at the source, but that the two releases change places.
 abbrev pub EndsDiffer : Type 0
 EndsDiffer =
     (more : List ℕ) →
