@@ -16,34 +16,44 @@ DECIDES = "call_table::decide_fit"
 KEY = 4  # octets of a key, with which a record begins
 PUT = 64  # a record is put back among so many stores behind the decision
 FRONT, MIDDLE, END, ABSENT, ZERO = "at the front", "in the middle", "at the end", "absent", "0"
-BEHIND = " behind an empty record"
+PLACES = (FRONT, MIDDLE, END)
 
-# what is asked, where its key stands, where the empty record stands, and the answer
+
+def answer_to(kind, key, empty):
+    if key == ZERO:
+        return 102
+    if kind == OPENING:
+        return 103 if key in PLACES else 0 if empty in PLACES else 104
+    return 0 if key in PLACES else 105
+
+
+# what is asked, where its key stands, where the one empty record stands, and the answer: all that there is
 ASKED = [
-    *((OPENING, ABSENT, empty, 0) for empty in (FRONT, MIDDLE, END)),
-    (OPENING, ABSENT, ABSENT, 104),
-    *((OPENING, key, ABSENT, 103) for key in (FRONT, MIDDLE, END)),
-    (OPENING, END, FRONT, 103),
-    (OPENING, ZERO, END, 102),
-    *((TRIGGER, key, ABSENT, 0) for key in (FRONT, MIDDLE, END)),
-    (TRIGGER, END, FRONT, 0),
-    (TRIGGER, ABSENT, ABSENT, 105),
-    (TRIGGER, ZERO, END, 102),
+    (kind, key, empty, answer_to(kind, key, empty))
+    for kind in (OPENING, TRIGGER)
+    for key in (ABSENT, *PLACES, ZERO)
+    for empty in (ABSENT, *PLACES)
+    if key != empty or key == ABSENT
 ]
+
+
+def has_a_line(asked):
+    """Whether it has a line of its own in the tables: each place of what is sought, and one case in which the other stands before it."""
+    kind, key, empty, _ = asked
+    if key == ZERO:
+        return empty == END
+    return empty == ABSENT or (kind, key) == (OPENING, ABSENT) or (key, empty) == (END, FRONT)
 
 
 def in_words(asked):
     kind, key, empty, answer = asked
-    what = "opening" if kind == OPENING else "event"
-    if kind == OPENING and key == ABSENT:
-        told = "no record empty" if empty == ABSENT else f"the empty record {empty}"
-    else:
-        told = f"key {key}" + BEHIND * (empty == FRONT)
-    return f"{what}, {told}" + (f": {answer}" if answer else "")
+    keyed = [] if (kind, key) == (OPENING, ABSENT) else [f"key {key}"]
+    stands = [f"the empty record {empty}"] if empty in PLACES else [] if keyed else ["no record empty"]
+    return ", ".join(["opening" if kind == OPENING else "event", *keyed, *stands]) + (f": {answer}" if answer else "")
 
 
 def places(count):
-    return {FRONT: 0, MIDDLE: count // 2, END: count - 1}
+    return dict(zip(PLACES, (0, count // 2, count - 1)))
 
 
 def needed(asked, count, unchecked):
