@@ -1,12 +1,14 @@
 // What the keys of a table say of an opening or event, at either end of a call: a refusal with 102 to 105, or to which record it goes. It
 // is decided here alone and on plain values, for the lent row of records and for the table of a trace.
+#![tactic(auto)]
+
 ghost use Rattle.std.specs.Prelude.{◌≡◌};
 ghost use Rattle.admission.specs.Admission.{refusal_in, opening_admitted, event_admitted, admission_of};
 
 use events::{Act, Event};
 use signal::{Answer, Wanted};
 
-#[derive(Drop)]
+#[derive(Clone, Copy)]
 pub enum Admission {
     Refuses(Answer),
     // an opening takes the lowest empty record

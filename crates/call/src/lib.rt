@@ -4,6 +4,8 @@
 //
 // Any record may be given, fit or not: the methods have no `requires`. What an event does stands on the page of rows of its end
 // (source_rows, destination_rows) and in the direct code of the rows; here it is carried out on the record, in one place for all events.
+#![tactic(auto)]
+
 mod destination_events;
 mod source_events;
 
@@ -16,7 +18,7 @@ use rows::{Effect, State};
 use signal::{Answer, Fresh, Signal, Soft, Wanted};
 
 // The key comes first: 0 marks an empty record.
-#[derive(Drop)]
+#[derive(Clone, Copy)]
 pub struct Call {
     pub key: u32,
     pub hard: bool,
@@ -26,7 +28,7 @@ pub struct Call {
     pub remote: u32,
 }
 
-#[derive(Drop)]
+#[derive(Clone, Copy)]
 pub struct Outcome {
     pub answer: Answer,
     pub call: Call,

@@ -3,6 +3,8 @@
 //
 // Few thin functions touch the lent row (survey, put, handle, look, fetch, handle_fit) and one the row by value (handle64): each is an
 // instance of a walk of the crate lent. All that they decide, covered code decides on plain values.
+#![tactic(auto)]
+
 ghost use Rattle.std.specs.Prelude.{◌≡◌, eqb, set, not, ◌&&◌};
 ghost use Rattle.call.specs.Events.{half_of};
 ghost use Rattle.rows.specs.declared.State.TheVariants.{SoftProceeding};
@@ -20,55 +22,55 @@ use rows::State;
 use signal::{Answer, Signal};
 
 // A record and its place.
-#[derive(Drop)]
+#[derive(Clone, Copy)]
 pub enum Found {
     At(usize, Call),
     Nothing,
 }
 
 // The record with the key, and the lowest empty record.
-#[derive(Drop)]
+#[derive(Clone, Copy)]
 pub struct Sought {
     pub found: Found,
     pub free: Found,
 }
 
 // Where a record stands.
-#[derive(Drop)]
+#[derive(Clone, Copy)]
 pub enum Place {
     Here(usize),
     Nowhere,
 }
 
 // Where the record with the key stands, and the lowest empty record.
-#[derive(Drop)]
+#[derive(Clone, Copy)]
 pub struct Places {
     pub found: Place,
     pub free: Place,
 }
 
 // What one reading of the row tells: that every record is fit by itself, and what is sought.
-#[derive(Drop)]
+#[derive(Clone, Copy)]
 pub struct Seen {
     pub sound: bool,
     pub sought: Sought,
 }
 
-#[derive(Drop)]
+#[derive(Clone, Copy)]
 pub struct Done {
     pub answer: Answer,
     pub signals: [Signal; 4],
 }
 
 // A table of 64 by value, with what was done.
-#[derive(Drop)]
+#[derive(Clone, Copy)]
 pub struct SixtyFour {
     pub table: [Call; 64],
     pub done: Done,
 }
 
 // What is decided: the answer, and the record to put at a place. A refusal's place is past the end.
-#[derive(Drop)]
+#[derive(Clone, Copy)]
 pub struct Ran {
     pub done: Done,
     pub at: usize,

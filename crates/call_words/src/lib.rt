@@ -1,5 +1,7 @@
 // A call's record as a line of numbers: key, hard, soft, state, incumbent, rerouting, last, remote; 0 for a connection that the state does
 // not hold.
+#![tactic(auto)]
+
 ghost use Rattle.std.specs.Prelude.{◌≡◌, cond};
 ghost use Rattle.lines.specs.Lines.{page, put_text};
 ghost use Rattle.call_words.specs.Words.{further_text, services_text, connections_text, call_text};

@@ -1,12 +1,14 @@
 // The Rerouting cause element to send with a release (01, "The cause element sent on"): a part of the string that the signal names, never a
 // copy.
+#![tactic(auto)]
+
 ghost use Rattle.std.specs.Prelude.{◌≡◌};
 ghost use Rattle.cause_element.specs.Element.{named_by_cause, named_by, whole_of, element_length, element_of, string_of};
 
 use signal::{Kind, SentCause, Signal};
 
 // Which string a signal names.
-#[derive(Drop)]
+#[derive(Clone, Copy)]
 pub enum Names {
     TheReceived,
     TheOwn,

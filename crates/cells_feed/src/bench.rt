@@ -7,7 +7,7 @@ use rows::State;
 use signal::{Crankback, ReceivedCause, ReroutingCause, Services, Soft, Switchover, Wanted};
 
 // A run so far, at one end: the call after its last event, and whether every line was written.
-#[derive(Drop)]
+#[derive(Clone, Copy)]
 struct Run {
     node: Node,
     call: Call,

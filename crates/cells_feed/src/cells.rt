@@ -8,7 +8,7 @@ use rows::State;
 use signal::{Crankback, ReceivedCause, ReroutingCause, Services, Soft, Switchover, Wanted};
 
 // Where a release comes from: the node's own party, or across the domain, for a connection.
-#[derive(Drop)]
+#[derive(Clone, Copy)]
 enum Origin {
     Party,
     Domain(u16),

@@ -3,6 +3,8 @@
 //
 // The methods of `call::Call` decide every event; the rest is printing. `line` parts a line and writes it, crate event_words says openings
 // and events in words, and `cells` and `bench` go through what a letter names.
+#![tactic(auto)]
+
 mod bench;
 mod cells;
 mod line;

@@ -1,4 +1,6 @@
 // The cells of one call, at the destination node (docs/CELLS.md).
+#![tactic(auto)]
+
 use events::Node;
 
 fn main() {

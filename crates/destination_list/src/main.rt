@@ -1,4 +1,6 @@
 // Event records as lines of `script`, at the destination node (docs/BENCH.md).
+#![tactic(auto)]
+
 use events::Node;
 
 fn main() {

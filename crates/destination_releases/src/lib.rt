@@ -1,5 +1,7 @@
 // The rows of a release from the calling side, for a connection (6.3.4), as direct code: each function returns the row of the page, carried
 // out.
+#![tactic(auto)]
+
 ghost use Rattle.std.specs.Prelude.{◌≡◌};
 ghost use Rattle.signal.specs.declared.SentCause.TheVariants.{Absent};
 ghost use Rattle.signal.specs.Signals.{release_of};

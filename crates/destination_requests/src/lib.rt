@@ -1,5 +1,7 @@
 // The rows of a soft reroute that the destination starts: soft trigger, the answers of path choice, and the connect (6.3.6, 6.3.7). Direct
 // code: each function returns the row of the page, carried out.
+#![tactic(auto)]
+
 ghost use Rattle.std.specs.Prelude.{◌≡◌};
 ghost use Rattle.destination_requests.specs.Effects.{destination_trigger, destination_path, destination_no_path, destination_connect};
 

@@ -1,5 +1,7 @@
 // The rows of a setup from the far side, and of the connect that answers it when this end is ready (6.3.5). Direct code: each function
 // returns the row of the page, carried out.
+#![tactic(auto)]
+
 mod ready;
 mod setup;
 

@@ -1,4 +1,6 @@
 // The trace of event records at the destination node (docs/BENCH.md).
+#![tactic(auto)]
+
 use events::Node;
 use trace_line::Columns;
 

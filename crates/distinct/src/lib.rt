@@ -3,6 +3,8 @@
 // The places of each number fall into 1,024 slots, and those of one slot are chained from the last to the first. A new number is looked for
 // along the chain of its slot; where that is longer than 8, among all that came before. So a list of which much falls into one slot costs
 // the square of its length, and one that is spread about its length (docs/SPEED.md). It knows nothing of tables.
+#![tactic(auto)]
+
 ghost use Rattle.std.specs.Prelude.{◌≡◌, true, ℕ, ◌<◌, ◌≤◌, length, take, get_or};
 ghost use Rattle.distinct.specs.Distinct.{has, distinct_of, unique_of};
 ghost use Rattle.distinct.specs.Chain.{slot_of, Walk};

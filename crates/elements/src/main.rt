@@ -1,6 +1,8 @@
 // Reads cases from standard input, a signal and two strings each, and prints the part that is sent on (docs/ELEMENTS.md).
 //
 // `cause_element::element` decides every case; the rest is reading and printing.
+#![tactic(auto)]
+
 mod print;
 
 use libc::STDIN_FILENO;

@@ -1,5 +1,7 @@
 // What is wrong with an event record that is bad: the first octet that is not named, in the order of octets, and what was expected there;
 // and that in words (docs/BENCH.md, "list").
+#![tactic(auto)]
+
 ghost use Rattle.std.specs.Prelude.{◌≡◌};
 ghost use Rattle.lines.specs.Lines.{page, put_text};
 ghost use Rattle.event_fault.specs.Fault.{open_fault, connection_fault, connect_fault, calling_fault, called_fault, kind_fault, fault_at};
@@ -8,7 +10,7 @@ ghost use Rattle.event_fault.specs.Words.{expected_text, byte_text, fault_text};
 use events::Node;
 
 // What an octet is to say.
-#[derive(Drop)]
+#[derive(Clone, Copy)]
 pub enum Expected {
     SomeEvent,
     NamedOrNot,
@@ -21,7 +23,7 @@ pub enum Expected {
 }
 
 // An octet, its value, and what was expected there.
-#[derive(Drop)]
+#[derive(Clone, Copy)]
 pub enum Fault {
     NoFault,
     Misses(u8, u8, Expected),

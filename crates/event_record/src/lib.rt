@@ -1,6 +1,8 @@
 // An event record of the trace, 16 octets, read into a key and what is done with it, and written (01, "The trace").
 //
 // Whether a value is named is seen from the octets alone; an octet that is not read never makes a record bad.
+#![tactic(auto)]
+
 ghost use Rattle.std.specs.Prelude.{◌≡◌, length, ◌+◌, ◌≤◌, ◌%◌};
 ghost use Rattle.event_record.specs.Places.{record_at, rest_length, rest_kept};
 ghost use Rattle.event_record.specs.Record.{number_of, soft_of, crankback_of, cause_of, open_of, connect_of, calling_of, called_of, plain_of};
@@ -14,20 +16,20 @@ use events::{Act, Event, Node};
 use signal::{Crankback, ReceivedCause, ReroutingCause, Services, Soft, Switchover, Wanted};
 
 // What the octets before and behind the key ask for.
-#[derive(Drop)]
+#[derive(Clone, Copy)]
 pub enum Request {
     Bad,
     Asks(Act),
 }
 
-#[derive(Drop)]
+#[derive(Clone, Copy)]
 pub struct Decoded {
     pub key: u32,
     pub request: Request,
 }
 
 // What is written of an event besides its key: octets 0 to 3, and the number that stands behind the key.
-#[derive(Drop)]
+#[derive(Clone, Copy)]
 struct Values {
     kind: u8,
     first: u8,

@@ -2,6 +2,8 @@
 // (docs/CELLS.md).
 //
 // Each function puts what it is named after into a lent buffer, from a place on, and answers the place behind it (crate lines).
+#![tactic(auto)]
+
 ghost use Rattle.std.specs.Prelude.{◌≡◌};
 ghost use Rattle.lines.specs.Lines.{page, put_text};
 ghost use Rattle.event_words.specs.Words.{then_number, hard_text, soft_text, wanted_text, policy_text, switchover_text, received_cause_text};

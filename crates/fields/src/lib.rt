@@ -2,6 +2,8 @@
 //
 // What is put is what crates/lines puts, and the contract says it in the same words. Where there is room for the longest number its digits
 // are stored at their places, the last first; near the end of the buffer they go byte by byte.
+#![tactic(auto)]
+
 ghost use Rattle.std.specs.Prelude.{◌+◌, ◌≤◌, ◌≡◌, ◌++◌, ◌∷◌, [], length};
 ghost use Rattle.io.specs.Digits.{last_digits, IsDigitCount};
 ghost use Rattle.lines.specs.Lines.{page, put_text, number_text};

@@ -2,12 +2,14 @@
 //
 // A line is octets without their newline. Blanks part its words, and `#` starts a comment. A function takes the place from which the next
 // word is sought; past the end there is none.
+#![tactic(auto)]
+
 ghost use Rattle.std.specs.Prelude.{◌≡◌, drop};
 ghost use Rattle.line_reader.specs.Words.{is_blank, is_of_word, past, first_word, same_text, place_after, place_before};
 ghost use Rattle.line_reader.specs.Numbers.{is_digit, number_up_to};
 
 // What a word says as a number.
-#[derive(Drop)]
+#[derive(Clone, Copy)]
 pub enum Reading {
     Counts(u32),
     NoNumber,

@@ -2,6 +2,8 @@
 //
 // A function that puts something takes the place to begin at, and answers the place behind it. Past the end nothing is stored and the place
 // stays, so that no function asks anything of its caller.
+#![tactic(auto)]
+
 ghost use Rattle.std.specs.Prelude.{◌≡◌};
 ghost use Rattle.lines.specs.Lines.{page, put_byte, put_text, number_text};
 

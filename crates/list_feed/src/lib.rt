@@ -3,6 +3,8 @@
 //
 // `event_record` takes a record out of what was read and says what it is, and `print` puts its line, or what is wrong with it, into a
 // buffer. The rest is reading and writing: all that has come is printed before more is waited for.
+#![tactic(auto)]
+
 mod print;
 
 ghost use Rattle.std.specs.Prelude.{◌≤◌, length};
@@ -13,7 +15,7 @@ use libc::{STDERR_FILENO, STDIN_FILENO, STDOUT_FILENO};
 
 // How far a run is: whether it goes on, the records that are listed, and the octets at the front of the buffer that are no whole record
 // yet.
-#[derive(Drop)]
+#[derive(Clone, Copy)]
 struct Progress {
     more: bool,
     listed: u64,

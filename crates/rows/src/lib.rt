@@ -3,6 +3,8 @@
 // The rows themselves are data, in specs/: a case is all that a row may read, a rule all that a row says, and one definition carries a rule
 // out. An end's page of rows is a function from cases to rules (crate source_rows). The code of a row is direct, and is proved to return
 // that rule, carried out.
+#![tactic(auto)]
+
 ghost use Rattle.std.specs.Prelude.{◌≡◌};
 ghost use Rattle.rows.specs.States.{state_number, incumbent_of, rerouting_of};
 ghost use Rattle.rows.specs.Cases.{class_of};
@@ -15,7 +17,7 @@ use signal::{Answer, CauseCode, Kind, ReceivedCause, ReroutingCause, SentCause, 
 // The states of 6.2.3 and 6.3.3, each with its own connection numbers: the incumbent first, then the rerouting one. Two have a name for
 // each end: HardWaiting is Hard Reroute Triggered at the source and Hard Reroute Indicated at the destination, HardUnderway is Hard Reroute
 // Proceeding and Hard Reroute Initiated.
-#[derive(Drop)]
+#[derive(Clone, Copy)]
 pub enum State {
     Null,
     Idle(u16),
@@ -77,7 +79,7 @@ impl State {
 }
 
 // The Rerouting cause that came, as far as any row reads it: none, #1, #4, or another.
-#[derive(Drop)]
+#[derive(Clone, Copy)]
 pub enum Class {
     CameNone,
     CameOutside,
@@ -116,7 +118,7 @@ pub fn party_kind(node: Node) -> Kind
 // What an event does to a call: a rule, carried out on the numbers of a record. `gives`: the state holds a new number. `stores`: the
 // setup's incarnation number is stored. The signals come first: so laid out, an event of the trace costs eighteen machine instructions
 // fewer.
-#[derive(Drop)]
+#[derive(Clone, Copy)]
 pub struct Effect {
     pub signals: [Signal; 4],
     pub state: State,

@@ -1,4 +1,6 @@
 // Lines of a script into event records, at the source node (docs/BENCH.md).
+#![tactic(auto)]
+
 use events::Node;
 
 fn main() {

@@ -3,6 +3,8 @@
 //
 // `script_line::parse` reads a line and `event_record::encode` makes its record; the rest is reading and writing. Of a line its octets in
 // front of a comment are kept, 4,096 at most.
+#![tactic(auto)]
+
 mod print;
 
 use events::Node;
@@ -10,7 +12,7 @@ use libc::STDIN_FILENO;
 use script_line::Parsed;
 
 // How far the reading has come.
-#[derive(Drop)]
+#[derive(Clone, Copy)]
 struct Progress {
     going: bool,
     // the number of the line

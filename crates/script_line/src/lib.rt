@@ -2,6 +2,8 @@
 // (docs/BENCH.md, "script").
 //
 // The name of the event is judged first, then the key, then the rest from left to right.
+#![tactic(auto)]
+
 ghost use Rattle.std.specs.Prelude.{◌≡◌, drop};
 ghost use Rattle.line_reader.specs.Words.{first_word};
 ghost use Rattle.script_line.specs.Script.{plain_name, full_name, name_of, read_end, read_services, read_soft, read_open, read_policy};
@@ -14,7 +16,7 @@ use line_reader::{Reading, after, is, number};
 use script_words::What;
 use signal::{Crankback, ReceivedCause, ReroutingCause, Services, Soft, Switchover, Wanted};
 
-#[derive(Drop)]
+#[derive(Clone, Copy)]
 pub enum Parsed {
     // no words
     Wordless,
@@ -24,7 +26,7 @@ pub enum Parsed {
 }
 
 // The event that a word names.
-#[derive(Drop)]
+#[derive(Clone, Copy)]
 pub enum Name {
     OpenName,
     TriggerName,
@@ -38,7 +40,7 @@ pub enum Name {
     ExpiryName,
 }
 
-#[derive(Drop)]
+#[derive(Clone, Copy)]
 pub enum Naming {
     NoName,
     Names(Name),

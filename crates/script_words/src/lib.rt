@@ -1,9 +1,11 @@
 // What was expected in a line of a script, at the first word that does not fit, in words (docs/BENCH.md, "script").
+#![tactic(auto)]
+
 ghost use Rattle.std.specs.Prelude.{◌≡◌};
 ghost use Rattle.lines.specs.Lines.{page, put_text};
 ghost use Rattle.script_words.specs.Words.{what_text};
 
-#[derive(Drop)]
+#[derive(Clone, Copy)]
 pub enum What {
     AnEvent,
     AKey,

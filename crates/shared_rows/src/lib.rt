@@ -1,5 +1,7 @@
 // The rows that are the same at both ends of a call, as direct code: each function returns the row of the page, carried out. `node` is the
 // end; where the node's own party is not told, nothing differs by it.
+#![tactic(auto)]
+
 mod ended;
 mod started;
 

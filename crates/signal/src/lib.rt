@@ -4,13 +4,15 @@
 // number (6.2.4.2) or Annex item (D17-5) is of the standard, af-cs-0173.000, and "decision 7" is a point of docs/DECISIONS.md.
 //
 // Everything here is plain data by value. The meanings stand in specs/: Causes, Signals, Numbers.
+#![tactic(auto)]
+
 ghost use Rattle.std.specs.Prelude.{◌≡◌};
 ghost use Rattle.signal.specs.Causes.{as_received, passed};
 ghost use Rattle.signal.specs.Signals.{naming, release_with, rejection};
 ghost use Rattle.signal.specs.Numbers.{answer_number, soft_number, fresh_after, is_late, is_clearing, services_of};
 
 // A Rerouting cause, 5.3. The numbers that 01 names are constants of the type.
-#[derive(Drop)]
+#[derive(Clone, Copy)]
 pub struct ReroutingCause {
     pub number: u8,
 }
@@ -36,7 +38,7 @@ impl ReroutingCause {
 }
 
 // The Rerouting cause of a signal (01, "Signals").
-#[derive(Drop)]
+#[derive(Clone, Copy)]
 pub enum SentCause {
     Absent,
     Numbered(ReroutingCause),
@@ -44,7 +46,7 @@ pub enum SentCause {
 }
 
 // The Rerouting cause that came with a release, or none.
-#[derive(Drop)]
+#[derive(Clone, Copy)]
 pub enum ReceivedCause {
     NoCause,
     WithCause(ReroutingCause),
@@ -78,14 +80,14 @@ impl ReceivedCause {
 }
 
 // The Cause code of a signal: what section 6.6 asks for, or #21, call rejected.
-#[derive(Drop)]
+#[derive(Clone, Copy)]
 pub enum CauseCode {
     Section66,
     CallRejected,
 }
 
 // The Crankback element of a called-side release, with what the node's own search for an alternate path found.
-#[derive(Drop)]
+#[derive(Clone, Copy)]
 pub enum Crankback {
     NoCrankback,
     AlternateFound,
@@ -93,7 +95,7 @@ pub enum Crankback {
 }
 
 // The switchover behaviour that a reroute setup asks for, by its code.
-#[derive(Drop)]
+#[derive(Clone, Copy)]
 pub struct Switchover {
     pub code: u8,
 }
@@ -113,7 +115,7 @@ impl Switchover {
     }
 }
 
-#[derive(Drop)]
+#[derive(Clone, Copy)]
 pub enum Soft {
     NoSoft,
     Asymmetric,
@@ -133,14 +135,14 @@ impl Soft {
 }
 
 // The rerouting services of a call.
-#[derive(Drop)]
+#[derive(Clone, Copy)]
 pub struct Services {
     pub hard: bool,
     pub soft: Soft,
 }
 
 // What an opening says of the services.
-#[derive(Drop)]
+#[derive(Clone, Copy)]
 pub enum Wanted {
     Unnamed,
     Named(Services),
@@ -163,7 +165,7 @@ impl Wanted {
 
 // The kinds of signal, in the order of decision 16. The called-side release is the destination's (02, Ask 2); among the signals of one
 // event it has the place of the calling-side one.
-#[derive(Drop)]
+#[derive(Clone, Copy)]
 pub enum Kind {
     NoSignal,
     TimerStart,
@@ -178,7 +180,7 @@ pub enum Kind {
     CalledRelease,
 }
 
-#[derive(Drop)]
+#[derive(Clone, Copy)]
 pub struct Signal {
     pub kind: Kind,
     pub connection: u16,
@@ -246,7 +248,7 @@ impl Signal {
 }
 
 // The answers, in the order of their numbers (01, "Numbers of refusal").
-#[derive(Drop)]
+#[derive(Clone, Copy)]
 pub enum Answer {
     Done,
     TableUnfit,
@@ -278,7 +280,7 @@ impl Answer {
 }
 
 // The connection number that a call may be given next.
-#[derive(Drop)]
+#[derive(Clone, Copy)]
 pub enum Fresh {
     Next(u16),
     Spent,

@@ -1,5 +1,7 @@
 // The four signals of an event in words, as the bench prints them: `-` where none is sent, else for instance `switch 4, release incumbent 3
 // #4`.
+#![tactic(auto)]
+
 ghost use Rattle.std.specs.Prelude.{◌≡◌, ◌||◌, ◌++◌};
 ghost use Rattle.lines.specs.Lines.{page, put_text, number_text};
 ghost use Rattle.signal_words.specs.Words.{is_sent, kind_text, sent_cause_text, cause_code_text, signal_text, next_text, signals_text};

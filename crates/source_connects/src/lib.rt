@@ -1,4 +1,6 @@
 // The rows of a connect for the rerouting connection (6.2.6), as direct code: each function returns the row of the page, carried out.
+#![tactic(auto)]
+
 ghost use Rattle.std.specs.Prelude.{◌≡◌};
 ghost use Rattle.rows.specs.declared.State.TheVariants.{HardUnderway};
 ghost use Rattle.source_connects.specs.Effects.{connect_effect};

@@ -1,5 +1,7 @@
 // The rows of a release from the calling side, by which every call ends (6.2.4). Direct code: each function returns the row of the page,
 // carried out.
+#![tactic(auto)]
+
 ghost use Rattle.std.specs.Prelude.{◌≡◌};
 ghost use Rattle.rows.specs.Cases.{class_of};
 ghost use Rattle.rows.specs.Effects.{said};

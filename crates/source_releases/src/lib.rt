@@ -1,5 +1,7 @@
 // The rows of a release from the called side, for a connection (6.2.4), as direct code: each function returns the row of the page, carried
 // out.
+#![tactic(auto)]
+
 ghost use Rattle.std.specs.Prelude.{◌≡◌};
 ghost use Rattle.rows.specs.declared.State.TheVariants.{HardUnderway, SoftProceeding, SoftInitiated, Awaiting};
 ghost use Rattle.rows.specs.Cases.{class_of};

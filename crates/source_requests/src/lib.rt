@@ -1,5 +1,7 @@
 // The rows of a reroute operation that this end starts: soft trigger, and the answers of path choice (6.2.5). Direct code: each function
 // returns the row of the page, carried out.
+#![tactic(auto)]
+
 mod path;
 mod trigger;
 

@@ -1,5 +1,7 @@
 // The rows of a reroute operation that the neighbour starts: its setup, and the connect that answers it when this end is ready (6.2.7).
 // Direct code: each function returns the row of the page, carried out.
+#![tactic(auto)]
+
 mod ready;
 mod setup;
 

@@ -1,4 +1,6 @@
 // Cases over a whole table, at the source node (docs/TABLES.md).
+#![tactic(auto)]
+
 use events::Node;
 
 fn main() {

@@ -9,7 +9,7 @@ use call_table::Done;
 use events::NodeAct;
 
 // A table with more records than a fit one has, so that 101 is seen, and what was done.
-#[derive(Drop)]
+#[derive(Clone, Copy)]
 pub(crate) struct Held {
     pub(crate) table: [Call; 1100],
     pub(crate) done: Done,

@@ -4,6 +4,8 @@
 // An entry of call_table decides each case, on exactly as many records as it has: `handle64` those of 64, `handle` those of any other
 // number, and `handle_fit` those that are not to be checked; the rest is reading and printing. `octets` reads a case, `first` gives its
 // records to the entry, and `print` says what came of it.
+#![tactic(auto)]
+
 mod first;
 mod octets;
 mod print;

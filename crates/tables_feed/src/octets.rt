@@ -6,7 +6,7 @@ use rows::State;
 use signal::Soft;
 
 // Records, and whether every value in them is named.
-#[derive(Drop)]
+#[derive(Clone, Copy)]
 pub(crate) struct Table {
     pub(crate) named: bool,
     pub(crate) table: [Call; 1100],

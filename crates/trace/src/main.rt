@@ -1,4 +1,6 @@
 // The trace of document 01's event records (docs/BENCH.md).
+#![tactic(auto)]
+
 use events::Node;
 use trace_line::Columns;
 

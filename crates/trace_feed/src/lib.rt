@@ -3,6 +3,8 @@
 //
 // What a record does, and every byte of its line, stands in trace_run; here is reading and writing. Each read is answered before the next,
 // so that a live feed shows at once.
+#![tactic(auto)]
+
 ghost use Rattle.std.specs.Prelude.{◌≡◌, length};
 
 use call::Call;

@@ -1,4 +1,6 @@
 // The lines of the trace and of the watch: what an event record did, in numbers.
+#![tactic(auto)]
+
 ghost use Rattle.std.specs.Prelude.{◌≡◌};
 ghost use Rattle.lines.specs.Lines.{page, put_text};
 ghost use Rattle.trace_line.specs.Line.{first_line, numbers_text, rest_text, line_text};
@@ -8,7 +10,7 @@ use rows::State;
 use signal::Answer;
 
 // What a line shows: the six numbers of the trace; or, for the watch, the last number given and the signals too.
-#[derive(Drop)]
+#[derive(Clone, Copy)]
 pub enum Columns {
     Trace,
     Watch,

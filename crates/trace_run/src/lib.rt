@@ -2,6 +2,8 @@
 //
 // The keys of the table stand beside it, so that a search reads nothing else. No event is checked for 101: the table that a run is given is
 // fit, and stays so.
+#![tactic(auto)]
+
 ghost use Rattle.std.specs.Prelude.{◌+◌, ◌≤◌, ◌<◌, ◌^◌, true, ◌≡◌, length};
 ghost use Rattle.call_table.specs.Fit.{fit_table};
 ghost use Rattle.trace_run.specs.Run.{chunk_of};
@@ -15,7 +17,7 @@ use signal::{Answer, Signal};
 use trace_line::Columns;
 
 // Where a run stops: the table, the place behind the lines, the count of records, and whether none of them was bad.
-#[derive(Drop)]
+#[derive(Clone, Copy)]
 pub struct Stop {
     pub table: [Call; 64],
     pub at: usize,

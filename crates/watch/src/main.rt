@@ -1,4 +1,6 @@
 // The watch of document 01's event records (docs/BENCH.md).
+#![tactic(auto)]
+
 use events::Node;
 use trace_line::Columns;
 
