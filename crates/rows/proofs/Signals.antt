@@ -220,17 +220,17 @@ closing_rises s n got (SendsSetup slot) = refl
 closing_rises s n got (SendsConnect slot) = refl
 closing_rises s n got (Rejects say code) = refl
 
-in_order : (b : ℕ) (l : List Signal) → rising b l ≡ true → in_order (places l) ≡ true
-in_order b [] p = refl
-in_order b (x ∷ []) p = refl
-in_order b (x ∷ (y ∷ [])) p =
+in_order_lem : (b : ℕ) (l : List Signal) → rising b l ≡ true → in_order (places l) ≡ true
+in_order_lem b [] p = refl
+in_order_lem b (x ∷ []) p = refl
+in_order_lem b (x ∷ (y ∷ [])) p =
     let q : rising (turn_of x.kind) (y ∷ []) ≡ true = right (ltb b (turn_of x.kind)) _ p in
     simp (left (ltb (turn_of x.kind) (turn_of y.kind)) true q, or-true)
-in_order b (x ∷ (y ∷ (z ∷ []))) p =
+in_order_lem b (x ∷ (y ∷ (z ∷ []))) p =
     let q : rising (turn_of x.kind) (y ∷ z ∷ []) ≡ true = right (ltb b (turn_of x.kind)) _ p in
     let r : rising (turn_of y.kind) (z ∷ []) ≡ true = right (ltb (turn_of x.kind) (turn_of y.kind)) _ q in
     simp (left (ltb (turn_of x.kind) (turn_of y.kind)) (rising (turn_of y.kind) (z ∷ [])) q, left (ltb (turn_of y.kind) (turn_of z.kind)) true r, or-true)
-in_order b (x ∷ (y ∷ (z ∷ (w ∷ more)))) p =
+in_order_lem b (x ∷ (y ∷ (z ∷ (w ∷ more)))) p =
     let q : rising (turn_of x.kind) (y ∷ z ∷ w ∷ more) ≡ true = right (ltb b (turn_of x.kind)) _ p in
     let r : rising (turn_of y.kind) (z ∷ w ∷ more) ≡ true = right (ltb (turn_of x.kind) (turn_of y.kind)) _ q in
     let t : rising (turn_of z.kind) (w ∷ more) ≡ true = right (ltb (turn_of y.kind) (turn_of z.kind)) _ r in
@@ -556,7 +556,7 @@ module _ (node : Node) (x : Standing) (e : Event) (rule : Rule) (fit : fits rule
 
   pub ordered : in_order made.signals ≡ true
   ordered =
-      in_order 0 all
+      in_order_lem 0 all
       (timer_rises rule.timer _
       (switch_rises s n rule.switch _
       (party_rises node got rule.party _
