@@ -2,4 +2,3 @@
 // numbers. This crate has no functions: it holds definitions, claims and theorems over an abstract end, which the source node, and a later
 // one, put their own into.
 #![tactic(auto)]
-
