@@ -31,7 +31,6 @@ use Rattle.rows.specs.declared.Effect.{Effect}
 use Rattle.rows.specs.declared.State.{State}
 use Rattle.rows.specs.declared.State.TheVariants.{Awaiting, HardUnderway, HardWaiting, Idle, Null, SoftInitiated, SoftProceeding}
 use Rattle.rows.specs.declared.State.TheVariants.{SoftTriggered}
-use Rattle.source_rows.specs.Demands.{meaningless}
 use Rattle.call.specs.Claims.{ended}
 use Rattle.call.specs.Events.{Half, handled_at}
 use Rattle.call.specs.Record.{call_done, emptied, last_after, last_given, moved_to, standing}

@@ -29,7 +29,7 @@ use Rattle.signal.specs.declared.Crankback.TheVariants.{AlternateFound, NoCrankb
 use Rattle.signal.specs.declared.Crankback.{Crankback}
 use Rattle.signal.specs.declared.ReceivedCause.TheVariants.{NoCause}
 use Rattle.signal.specs.declared.ReceivedCause.{ReceivedCause}
-use Rattle.signal.specs.declared.SentCause.TheVariants.{Absent, Numbered}
+use Rattle.signal.specs.declared.SentCause.TheVariants.{Numbered}
 use Rattle.signal.specs.declared.SentCause.{SentCause}
 use Rattle.signal.specs.declared.Soft.TheVariants.{Symmetric}
 use Rattle.signal.specs.declared.Switchover.{Switchover}

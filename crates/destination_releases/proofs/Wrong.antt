@@ -20,7 +20,7 @@ use Rattle.signal.specs.declared.Fresh.TheVariants.{Next, Spent}
 use Rattle.signal.specs.declared.Fresh.{Fresh}
 use Rattle.signal.specs.declared.ReceivedCause.TheVariants.{NoCause, WithCause}
 use Rattle.signal.specs.declared.ReceivedCause.{ReceivedCause}
-use Rattle.signal.specs.declared.SentCause.TheVariants.{Absent, Numbered}
+use Rattle.signal.specs.declared.SentCause.TheVariants.{Numbered}
 use Rattle.signal.specs.declared.SentCause.{SentCause}
 use Rattle.rows.specs.States.{state_number}
 use Rattle.rows.specs.declared.Effect.{Effect}
