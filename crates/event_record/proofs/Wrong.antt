@@ -164,7 +164,8 @@ module _ {M : Type 1} {𝓤 : Ura M} (𝓛 : Logic 𝓤) (memory : Memory → SP
   -- keep_rest: of octets and how many of them have come, how many are kept, and the octets that are left
   abbrev keep_rest_shuts_out : List ℕ → ℕ → ℕ → List ℕ → Type 1
   keep_rest_shuts_out octets filled r left =
-      (κs : Lfts 1) → NeverHolds ((keep_rest.clauses 𝓛 memory run κs (lent_mut octets, (filled, tt))).ensures tt r (lent_mut left, (filled, tt)))
+      (κs : Lfts 1) → NeverHolds ((keep_rest.clauses 𝓛 memory run κs (lent_mut octets, (filled, tt))
+      ).ensures tt r (lent_mut left, (filled, tt)))
 
   -- a whole record is done with: none of it is kept
   pub whole_record_is_kept : (left : List ℕ) → keep_rest_shuts_out (replicate 20 7) 16 16 left
