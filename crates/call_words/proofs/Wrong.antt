@@ -11,7 +11,7 @@ use seplogic.Ra.Ura.{Ura}
 use base.Logic.{SProp, ent}
 use contract.Lifetimes.{Lfts}
 use contract.Monad.{Fun, fact, fact_mono}
-use denote.Ref.{Bor}
+use denote.MutBor.{MutBor}
 use types.Logic.{Logic}
 use prog.Memory.{Memory}
 use prog.Routine.{Routine}
@@ -21,9 +21,9 @@ use Rattle.rows.specs.declared.State.TheVariants.{Awaiting}
 use Rattle.signal.specs.declared.Soft.TheVariants.{Symmetric}
 use Rattle.call_words.specs.contracts.put_call as put_call
 
--- something that is lent; where it stands says nothing here
-abbrev lent : {X : Type 0} → X → Bor X
-lent xs = record { ref_ptr = (0, 0); now = xs }
+-- something that is lent to be changed; where it stands says nothing here
+abbrev lent_mut : {X : Type 0} → X → MutBor X
+lent_mut xs = record { ref_ptr = (0, 0); ghost_name = 0; now = xs }
 
 -- key 7, hard on, soft 2, state 7, incumbent 3, rerouting 5, last 6, remote 4
 abbrev held : Call
@@ -37,8 +37,8 @@ module _ {M : Type 1} {𝓤 : Ura M} (𝓛 : Logic 𝓤) (memory : Memory → SP
   -- put_call: of a buffer, a place and a record, the place answered, and what is left in the buffer
   abbrev put_call_shuts_out : List ℕ → ℕ → Call → ℕ → List ℕ → Type 1
   put_call_shuts_out out at call r left =
-      (κs : Lfts 1) → NeverHolds ((put_call.clauses 𝓛 memory run κs (lent out, (at, (call, tt)))
-      ).ensures tt r (lent left, (at, (call, tt))))
+      (κs : Lfts 1) → NeverHolds ((put_call.clauses 𝓛 memory run κs (lent_mut out, (at, (call, tt)))
+      ).ensures tt r (lent_mut left, (at, (call, tt))))
 
   -- the incumbent stands before the rerouting connection
   pub connections_exchanged : (r : ℕ) → put_call_shuts_out (replicate 15 0) 0 held r (ascii "7 1 2 7 5 3 6 4")

@@ -16,11 +16,11 @@ use Rattle.cause_element.specs.declared.Names.{Names}
 use Rattle.cause_element.specs.declared.Names.TheVariants.{TheReceived, TheOwn, Neither}
 use Rattle.cause_element.specs.Element.{named_by_cause, named_by_kind, named_by, picked_by, count_by}
 use Rattle.cause_element.specs.Claims as claim
-use Rattle.cause_element.proofs.Laws.{cut, enough, never_past as element-never-past}
+use Rattle.cause_element.proofs.Laws.{cut, enough, never_past as element_never_past}
 
 by_name : (string : Names) (received own : List ℕ) → count_by string received own ≤ length (picked_by string received own)
-by_name TheReceived received own = element-never-past received
-by_name TheOwn received own = element-never-past own
+by_name TheReceived received own = element_never_past received
+by_name TheOwn received own = element_never_past own
 by_name Neither received own = zero-le
 
 pub never_past : claim.NeverPast

@@ -1,6 +1,6 @@
 -- How much of a string is its element, by its length. Assumes nothing.
 use Prim.Native.Nat.{ℕ, ◌≤◌, ◌<◌, zero-le}
-use mathlib.Core.Path.{◌≡◌, refl, sym, subst}
+use mathlib.Core.Path.{◌≡◌, refl, subst}
 use mathlib.Core.Bool.{Bool, true, false, cond}
 use mathlib.Core.List.{List}
 use lib.Dec.{ltb}
@@ -8,10 +8,7 @@ use lib.ListN.{length}
 use borrow.Author.Tests.{lt-ltb, le-ltb, ltb-false}
 use Rattle.cause_element.specs.Element.{whole_length, element_length}
 
--- under four octets, too short for its length, and neither
-pub short : (octets : List ℕ) → length octets < 4 → 0 ≡ element_length octets
-short octets h = rw (lt-ltb (length octets) 4 h)
-
+-- too short for its length, and neither that nor under four octets
 pub cut : (octets : List ℕ) (n : ℕ) → 4 ≤ length octets → n ≡ whole_length octets → length octets < n → 0 ≡ element_length octets
 cut octets n h e l = rw (le-ltb (length octets) 4 h, lt-ltb (length octets) (whole_length octets) (subst (λ m. length octets < m) e l))
 
@@ -26,6 +23,3 @@ never_past octets = by_tests (ltb (length octets) 4) (ltb (length octets) (whole
     by_tests true d e = zero-le
     by_tests false true e = zero-le
     by_tests false false e = ltb-false (length octets) (whole_length octets) e
-
-pub within : (octets : List ℕ) (n : ℕ) → n ≡ element_length octets → n ≤ length octets
-within octets n e = subst (λ m. m ≤ length octets) (sym e) (never_past octets)

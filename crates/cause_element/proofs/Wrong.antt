@@ -58,18 +58,18 @@ module _ {M : Type 1} {𝓤 : Ura M} (𝓛 : Logic 𝓤) (memory : Memory → SP
 
   -- the length is big-endian (01, "The cause element sent on"): 1, and not 256, which the string is too short for
   pub length_read_little_endian :
-      (received : List ℕ) (p : ℕ × ℕ) (name : ℕ) (n : ℕ) (code : CauseCode) →
+      (received : List ℕ) (p : ℕ × ℕ) (n : ℕ) (code : CauseCode) →
       element_shuts_out received (1 ∷ 2 ∷ 0 ∷ 1 ∷ 9 ∷ 8 ∷ [])
       (record { kind = CallingRelease; connection = n; cause = Numbered (cause 4); code = code })
-      (record { ref_ptr = p; ghost_name = name; now = [] })
-  length_read_little_endian received p name n code κs =
+      (record { ref_ptr = p; now = [] })
+  length_read_little_endian received p n code κs =
       fact_mono 𝓤 _ _ (λ h. let z : ◌≡◌ {A = ℕ} 0 _ = ap (λ (xs : List ℕ). length xs) h.0 in omega arith)
 
   -- the four octets of header are sent too
   pub header_not_counted :
-      (received : List ℕ) (p : ℕ × ℕ) (name : ℕ) (n : ℕ) (code : CauseCode) →
+      (received : List ℕ) (p : ℕ × ℕ) (n : ℕ) (code : CauseCode) →
       element_shuts_out received (1 ∷ 2 ∷ 0 ∷ 1 ∷ 9 ∷ 8 ∷ [])
       (record { kind = CallingRelease; connection = n; cause = Numbered (cause 4); code = code })
-      (record { ref_ptr = p; ghost_name = name; now = 1 ∷ [] })
-  header_not_counted received p name n code κs =
+      (record { ref_ptr = p; now = 1 ∷ [] })
+  header_not_counted received p n code κs =
       fact_mono 𝓤 _ _ (λ h. let z : ◌≡◌ {A = ℕ} 1 _ = ap (λ (xs : List ℕ). length xs) h.0 in omega arith)

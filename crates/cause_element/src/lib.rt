@@ -71,7 +71,7 @@ fn length(string: &[u8]) -> usize
 // The part stands where its string does: no octet is copied.
 pub fn element<'a>(received: &'a [u8], own: &'a [u8], signal: Signal) -> &'a [u8]
     ensures { (result.now ≡ element_of received.now own.now signal)
-        × (result.ref_ptr ≡ (string_of received.entry own.entry signal).ptr) }
+        × (result.ref_ptr ≡ (string_of received.entry own.entry signal).ref_ptr) }
 {
     let string = named(signal);
     match string {

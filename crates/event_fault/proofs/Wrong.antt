@@ -10,7 +10,7 @@ use seplogic.Ra.Ura.{Ura}
 use base.Logic.{SProp, ent}
 use contract.Lifetimes.{Lfts}
 use contract.Monad.{Fun, fact, fact_mono}
-use denote.Ref.{Bor}
+use denote.MutBor.{MutBor}
 use types.Logic.{Logic}
 use prog.Memory.{Memory}
 use prog.Routine.{Routine}
@@ -23,9 +23,9 @@ use Rattle.lines.specs.Lines.{Page, ascii, put_byte, put_text, spelled, number_t
 use Rattle.event_fault.specs.contracts.find as find
 use Rattle.event_fault.specs.contracts.put_fault as put_fault
 
--- something that is lent; where it stands says nothing here
-abbrev lent : {X : Type 0} → X → Bor X
-lent xs = record { ref_ptr = (0, 0); now = xs }
+-- something that is lent to be changed; where it stands says nothing here
+abbrev lent_mut : {X : Type 0} → X → MutBor X
+lent_mut xs = record { ref_ptr = (0, 0); ghost_name = 0; now = xs }
 
 module _ {M : Type 1} {𝓤 : Ura M} (𝓛 : Logic 𝓤) (memory : Memory → SProp 𝓤) (run : Routine → Fun 𝓤) where
   -- it is false: the logic proves falsity from it
@@ -49,8 +49,8 @@ module _ {M : Type 1} {𝓤 : Ura M} (𝓛 : Logic 𝓤) (memory : Memory → SP
   -- put_fault: of a buffer, a place and a fault, the place answered, and what is left in the buffer
   abbrev put_fault_shuts_out : List ℕ → ℕ → Fault → ℕ → List ℕ → Type 1
   put_fault_shuts_out out at fault r left =
-      (κs : Lfts 1) → NeverHolds ((put_fault.clauses 𝓛 memory run κs (lent out, (at, (fault, tt)))
-      ).ensures tt r (lent left, (at, (fault, tt))))
+      (κs : Lfts 1) → NeverHolds ((put_fault.clauses 𝓛 memory run κs (lent_mut out, (at, (fault, tt)))
+      ).ensures tt r (lent_mut left, (at, (fault, tt))))
 
   -- the byte stands before its value (docs/BENCH.md, "list")
   pub byte_told_as_its_value : (r : ℕ) → put_fault_shuts_out (replicate 21 0) 0 (Misses 1 2 PolicyFlag) r (ascii "byte 1 is 1, expected")

@@ -55,7 +55,8 @@ pub kept_more : (l old : List ℕ) (place index : ℕ) → l ≡ brought_from ol
 kept_more l old place index e h = ap (λ r. set r index (get_or r (place + index) 0)) e ∙ brought_more old place index h
 
 -- where there are not so many octets nothing is kept, and else what stands behind the last whole record
-pub none_kept : (octets : List ℕ) (filled : ℕ) → length octets < filled → (0 ≡ rest_length octets filled) × (octets ≡ rest_kept octets filled)
+pub none_kept : (octets : List ℕ) (filled : ℕ) → length octets < filled →
+    (0 ≡ rest_length octets filled) × (octets ≡ rest_kept octets filled)
 unfolding rest_length
 none_kept octets filled h = rw (lt-ltb _ _ h) (refl, refl)
 

@@ -12,6 +12,7 @@ use base.Logic.{SProp, ent}
 use contract.Lifetimes.{Lfts}
 use contract.Monad.{Fun, fact, fact_mono}
 use denote.Ref.{Bor}
+use denote.MutBor.{MutBor}
 use types.Logic.{Logic}
 use prog.Memory.{Memory}
 use prog.Routine.{Routine}
@@ -41,6 +42,10 @@ use Rattle.event_record.specs.contracts.kind_at as kind_at
 -- something that is lent; where it stands says nothing here
 abbrev lent : {X : Type 0} → X → Bor X
 lent xs = record { ref_ptr = (0, 0); now = xs }
+
+-- something that is lent to be changed
+abbrev lent_mut : {X : Type 0} → X → MutBor X
+lent_mut xs = record { ref_ptr = (0, 0); ghost_name = 0; now = xs }
 
 -- the octets that would be written, under key 0, of what is asked for; none of what is bad
 abbrev written : Request → List ℕ
@@ -159,7 +164,8 @@ module _ {M : Type 1} {𝓤 : Ura M} (𝓛 : Logic 𝓤) (memory : Memory → SP
   -- keep_rest: of octets and how many of them have come, how many are kept, and the octets that are left
   abbrev keep_rest_shuts_out : List ℕ → ℕ → ℕ → List ℕ → Type 1
   keep_rest_shuts_out octets filled r left =
-      (κs : Lfts 1) → NeverHolds ((keep_rest.clauses 𝓛 memory run κs (lent octets, (filled, tt))).ensures tt r (lent left, (filled, tt)))
+      (κs : Lfts 1) → NeverHolds ((keep_rest.clauses 𝓛 memory run κs (lent_mut octets, (filled, tt))
+      ).ensures tt r (lent_mut left, (filled, tt)))
 
   -- a whole record is done with: none of it is kept
   pub whole_record_is_kept : (left : List ℕ) → keep_rest_shuts_out (replicate 20 7) 16 16 left

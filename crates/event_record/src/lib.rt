@@ -5,8 +5,8 @@
 
 ghost use Rattle.std.specs.Prelude.{◌≡◌, length, ◌+◌, ◌≤◌, ◌%◌};
 ghost use Rattle.event_record.specs.Places.{record_at, rest_length, rest_kept};
-ghost use Rattle.event_record.specs.Record.{number_of, soft_of, crankback_of, cause_of, open_of, connect_of, calling_of, called_of, plain_of};
-ghost use Rattle.event_record.specs.Record.{request_of, kind_at, decoded_at};
+ghost use Rattle.event_record.specs.Record.{number_of, soft_of, crankback_of, cause_of, open_of, connect_of, calling_of, called_of};
+ghost use Rattle.event_record.specs.Record.{plain_of, request_of, kind_at, decoded_at};
 ghost use Rattle.event_record.specs.Encoded.{flag_number, present_number, cause_number, brought, open_values, event_values, act_values};
 ghost use Rattle.event_record.specs.Encoded.{laid_out, values_at, written_at};
 ghost use Rattle.signal.specs.Numbers.{crankback_number};

@@ -11,7 +11,7 @@ use seplogic.Ra.Ura.{Ura}
 use base.Logic.{SProp, ent}
 use contract.Lifetimes.{Lfts}
 use contract.Monad.{Fun, fact, fact_mono}
-use denote.Ref.{Bor}
+use denote.MutBor.{MutBor}
 use types.Logic.{Logic}
 use prog.Memory.{Memory}
 use prog.Routine.{Routine}
@@ -24,9 +24,9 @@ use Rattle.lines.specs.Lines.{Page, ascii, put_byte, put_text, spelled, number_t
 use Rattle.event_words.specs.contracts.put_event as put_event
 use Rattle.event_words.specs.contracts.put_keyless as put_keyless
 
--- something that is lent; where it stands says nothing here
-abbrev lent : {X : Type 0} → X → Bor X
-lent xs = record { ref_ptr = (0, 0); now = xs }
+-- something that is lent to be changed; where it stands says nothing here
+abbrev lent_mut : {X : Type 0} → X → MutBor X
+lent_mut xs = record { ref_ptr = (0, 0); ghost_name = 0; now = xs }
 
 module _ {M : Type 1} {𝓤 : Ura M} (𝓛 : Logic 𝓤) (memory : Memory → SProp 𝓤) (run : Routine → Fun 𝓤) where
   -- it is false: the logic proves falsity from it
@@ -36,8 +36,8 @@ module _ {M : Type 1} {𝓤 : Ura M} (𝓛 : Logic 𝓤) (memory : Memory → SP
   -- put_event: of a buffer, a place, a key and what is done with it, the place answered, and what is left in the buffer
   abbrev put_event_shuts_out : List ℕ → ℕ → ℕ → Act → ℕ → List ℕ → Type 1
   put_event_shuts_out out at key act r left =
-      (κs : Lfts 1) → NeverHolds ((put_event.clauses 𝓛 memory run κs (lent out, (at, (Source, (key, (act, tt)))))
-      ).ensures tt r (lent left, (at, (Source, (key, (act, tt))))))
+      (κs : Lfts 1) → NeverHolds ((put_event.clauses 𝓛 memory run κs (lent_mut out, (at, (Source, (key, (act, tt)))))
+      ).ensures tt r (lent_mut left, (at, (Source, (key, (act, tt))))))
 
   -- the switchover code 0 is immediate, and 1 clearing (docs/BENCH.md, "script")
   pub code_0_told_as_clearing :
@@ -54,8 +54,8 @@ module _ {M : Type 1} {𝓤 : Ura M} (𝓛 : Logic 𝓤) (memory : Memory → SP
   -- put_keyless: of a buffer, a place and an event, the place answered, and what is left in the buffer
   abbrev put_keyless_shuts_out : List ℕ → ℕ → Event → ℕ → List ℕ → Type 1
   put_keyless_shuts_out out at event r left =
-      (κs : Lfts 1) → NeverHolds ((put_keyless.clauses 𝓛 memory run κs (lent out, (at, (Source, (event, tt))))
-      ).ensures tt r (lent left, (at, (Source, (event, tt)))))
+      (κs : Lfts 1) → NeverHolds ((put_keyless.clauses 𝓛 memory run κs (lent_mut out, (at, (Source, (event, tt))))
+      ).ensures tt r (lent_mut left, (at, (Source, (event, tt)))))
 
   -- no key is told
   pub key_0_told_of_none : (r : ℕ) → put_keyless_shuts_out (replicate 17 0) 0 (Connect 5 true) r (ascii "connect 0 5 yes")

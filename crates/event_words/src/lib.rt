@@ -6,8 +6,8 @@
 
 ghost use Rattle.std.specs.Prelude.{◌≡◌};
 ghost use Rattle.lines.specs.Lines.{page, put_text};
-ghost use Rattle.event_words.specs.Words.{then_number, hard_text, soft_text, wanted_text, policy_text, switchover_text, received_cause_text};
-ghost use Rattle.event_words.specs.Words.{crankback_text, party_text, domain_text, event_name, name_text};
+ghost use Rattle.event_words.specs.Words.{then_number, hard_text, soft_text, wanted_text, policy_text, switchover_text};
+ghost use Rattle.event_words.specs.Words.{received_cause_text, crankback_text, party_text, domain_text, event_name, name_text};
 ghost use Rattle.event_words.specs.Words.{values_text, keyless_text, brought_text, event_text};
 ghost use Rattle.events.specs.declared.Event.TheVariants.{Connect, Setup, FromDomain};
 

@@ -8,7 +8,7 @@ use borrow.Author.Tests.{lt-ltb}
 use lib.ListN.{length, take, drop, set, length-append, take-append-drop, length-set}
 use lib.Seq.{drop-cons, lt-length-set, get_or-set_same, drop-set-lt, take-set-le}
 use Rattle.io.specs.Digits.{hex_digit_ascii, last_digits, IsDigitCount}
-use Rattle.lines.specs.Lines.{page, put_byte, put_text, spelled, number_text}
+use Rattle.lines.specs.Lines.{page, put_text, spelled, number_text}
 use Rattle.lines.proofs.Claims.{put_with_room}
 use Rattle.lines.proofs.Laws.{put_in, put_one, and_then, number_is}
 use Rattle.fields.specs.Fields.{spliced}

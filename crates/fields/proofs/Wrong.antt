@@ -10,6 +10,7 @@ use seplogic.Ra.Ura.{Ura}
 use base.Logic.{SProp, ent}
 use contract.Lifetimes.{Lfts}
 use contract.Monad.{Fun, fact, fact_mono}
+use denote.MutBor.{MutBor}
 use denote.Ref.{Bor}
 use types.Logic.{Logic}
 use prog.Memory.{Memory}
@@ -22,6 +23,10 @@ use Rattle.fields.specs.contracts.put_count as put_count
 abbrev lent : {X : Type 0} → X → Bor X
 lent xs = record { ref_ptr = (0, 0); now = xs }
 
+-- something that is lent to be changed
+abbrev lent_mut : {X : Type 0} → X → MutBor X
+lent_mut xs = record { ref_ptr = (0, 0); ghost_name = 0; now = xs }
+
 module _ {M : Type 1} {𝓤 : Ura M} (𝓛 : Logic 𝓤) (memory : Memory → SProp 𝓤) (run : Routine → Fun 𝓤) where
   -- it is false: the logic proves falsity from it
   abbrev NeverHolds : SProp 𝓤 → Type 1
@@ -30,8 +35,8 @@ module _ {M : Type 1} {𝓤 : Ura M} (𝓛 : Logic 𝓤) (memory : Memory → SP
   -- put_field: of a buffer, a place, a number and its end, the place answered, and what is left in the buffer
   abbrev put_field_shuts_out : List ℕ → ℕ → ℕ → ℕ → ℕ → List ℕ → Type 1
   put_field_shuts_out out at number end r left =
-      (κs : Lfts 1) → NeverHolds ((put_field.clauses 𝓛 memory run κs (lent out, (at, (number, (end, tt))))
-      ).ensures tt r (lent left, (at, (number, (end, tt)))))
+      (κs : Lfts 1) → NeverHolds ((put_field.clauses 𝓛 memory run κs (lent_mut out, (at, (number, (end, tt))))
+      ).ensures tt r (lent_mut left, (at, (number, (end, tt)))))
 
   -- a number of one digit and its end take two places
   pub field_ends_a_place_early : (left : List ℕ) → put_field_shuts_out (0 ∷ 0 ∷ 0 ∷ []) 0 5 32 1 left
@@ -52,8 +57,8 @@ module _ {M : Type 1} {𝓤 : Ura M} (𝓛 : Logic 𝓤) (memory : Memory → SP
   -- put_count: the same of a count
   abbrev put_count_shuts_out : List ℕ → ℕ → ℕ → ℕ → ℕ → List ℕ → Type 1
   put_count_shuts_out out at count end r left =
-      (κs : Lfts 1) → NeverHolds ((put_count.clauses 𝓛 memory run κs (lent out, (at, (count, (end, tt))))
-      ).ensures tt r (lent left, (at, (count, (end, tt)))))
+      (κs : Lfts 1) → NeverHolds ((put_count.clauses 𝓛 memory run κs (lent_mut out, (at, (count, (end, tt))))
+      ).ensures tt r (lent_mut left, (at, (count, (end, tt)))))
 
   -- the digit before the last is what is left by ten of the tens: 12 is not "22"
   pub tens_one_too_high : (r : ℕ) → put_count_shuts_out (replicate 12 0) 0 12 32 r (50 ∷ 50 ∷ 32 ∷ replicate 9 0)

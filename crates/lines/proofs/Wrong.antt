@@ -10,6 +10,7 @@ use seplogic.Ra.Ura.{Ura}
 use base.Logic.{SProp, ent}
 use contract.Lifetimes.{Lfts}
 use contract.Monad.{Fun, fact, fact_mono}
+use denote.MutBor.{MutBor}
 use denote.Ref.{Bor}
 use types.Logic.{Logic}
 use prog.Memory.{Memory}
@@ -23,6 +24,10 @@ use Rattle.lines.specs.contracts.put_number as put_number
 abbrev lent : {X : Type 0} → X → Bor X
 lent xs = record { ref_ptr = (0, 0); now = xs }
 
+-- something that is lent to be changed
+abbrev lent_mut : {X : Type 0} → X → MutBor X
+lent_mut xs = record { ref_ptr = (0, 0); ghost_name = 0; now = xs }
+
 module _ {M : Type 1} {𝓤 : Ura M} (𝓛 : Logic 𝓤) (memory : Memory → SProp 𝓤) (run : Routine → Fun 𝓤) where
   -- it is false: the logic proves falsity from it
   abbrev NeverHolds : SProp 𝓤 → Type 1
@@ -31,8 +36,8 @@ module _ {M : Type 1} {𝓤 : Ura M} (𝓛 : Logic 𝓤) (memory : Memory → SP
   -- put_byte: of a buffer, a place and a byte, the place answered, and what is left in the buffer
   abbrev put_byte_shuts_out : List ℕ → ℕ → ℕ → ℕ → List ℕ → Type 1
   put_byte_shuts_out out at byte r left =
-      (κs : Lfts 1) → NeverHolds ((put_byte.clauses 𝓛 memory run κs (lent out, (at, (byte, tt)))
-      ).ensures tt r (lent left, (at, (byte, tt))))
+      (κs : Lfts 1) → NeverHolds ((put_byte.clauses 𝓛 memory run κs (lent_mut out, (at, (byte, tt)))
+      ).ensures tt r (lent_mut left, (at, (byte, tt))))
 
   -- the next byte goes right behind
   pub byte_moves_two_places : (left : List ℕ) → put_byte_shuts_out (0 ∷ 0 ∷ []) 0 65 2 left
@@ -47,8 +52,8 @@ module _ {M : Type 1} {𝓤 : Ura M} (𝓛 : Logic 𝓤) (memory : Memory → SP
   -- put_word: of a buffer, a place and a word, the same
   abbrev put_word_shuts_out : List ℕ → ℕ → List ℕ → ℕ → List ℕ → Type 1
   put_word_shuts_out out at word r left =
-      (κs : Lfts 2) → NeverHolds ((put_word.clauses 𝓛 memory run κs (lent out, (at, (lent word, tt)))
-      ).ensures tt r (lent left, (at, (lent word, tt))))
+      (κs : Lfts 2) → NeverHolds ((put_word.clauses 𝓛 memory run κs (lent_mut out, (at, (lent word, tt)))
+      ).ensures tt r (lent_mut left, (at, (lent word, tt))))
 
   -- the whole word is put, here "abc"
   pub word_from_its_second_byte : (r : ℕ) → put_word_shuts_out (0 ∷ 0 ∷ 0 ∷ []) 0 (97 ∷ 98 ∷ 99 ∷ []) r (98 ∷ 99 ∷ 0 ∷ [])
@@ -64,8 +69,8 @@ module _ {M : Type 1} {𝓤 : Ura M} (𝓛 : Logic 𝓤) (memory : Memory → SP
   -- put_number: of a buffer, a place and a number, the same
   abbrev put_number_shuts_out : List ℕ → ℕ → ℕ → ℕ → List ℕ → Type 1
   put_number_shuts_out out at number r left =
-      (κs : Lfts 1) → NeverHolds ((put_number.clauses 𝓛 memory run κs (lent out, (at, (number, tt)))
-      ).ensures tt r (lent left, (at, (number, tt))))
+      (κs : Lfts 1) → NeverHolds ((put_number.clauses 𝓛 memory run κs (lent_mut out, (at, (number, tt)))
+      ).ensures tt r (lent_mut left, (at, (number, tt))))
 
   -- the number that is given is put
   pub every_number_is_0 : (r : ℕ) → put_number_shuts_out (0 ∷ 0 ∷ []) 0 7 r (48 ∷ 0 ∷ [])

@@ -10,6 +10,7 @@ use seplogic.Ra.Ura.{Ura}
 use base.Logic.{SProp, ent}
 use contract.Lifetimes.{Lfts}
 use contract.Monad.{Fun, fact, fact_mono}
+use denote.MutBor.{MutBor}
 use denote.Ref.{Bor}
 use types.Logic.{Logic}
 use prog.Memory.{Memory}
@@ -23,6 +24,10 @@ use Rattle.script_words.specs.contracts.put_what as put_what
 abbrev lent : {X : Type 0} → X → Bor X
 lent xs = record { ref_ptr = (0, 0); now = xs }
 
+-- something that is lent to be changed
+abbrev lent_mut : {X : Type 0} → X → MutBor X
+lent_mut xs = record { ref_ptr = (0, 0); ghost_name = 0; now = xs }
+
 module _ {M : Type 1} {𝓤 : Ura M} (𝓛 : Logic 𝓤) (memory : Memory → SProp 𝓤) (run : Routine → Fun 𝓤) where
   -- it is false: the logic proves falsity from it
   abbrev NeverHolds : SProp 𝓤 → Type 1
@@ -31,8 +36,8 @@ module _ {M : Type 1} {𝓤 : Ura M} (𝓛 : Logic 𝓤) (memory : Memory → SP
   -- put_what: of a buffer, a place and what was expected, the place answered, and what is left in the buffer
   abbrev put_what_shuts_out : List ℕ → ℕ → What → ℕ → List ℕ → Type 1
   put_what_shuts_out out at what r left =
-      (κs : Lfts 1) → NeverHolds ((put_what.clauses 𝓛 memory run κs (lent out, (at, (what, tt)))
-      ).ensures tt r (lent left, (at, (what, tt))))
+      (κs : Lfts 1) → NeverHolds ((put_what.clauses 𝓛 memory run κs (lent_mut out, (at, (what, tt)))
+      ).ensures tt r (lent_mut left, (at, (what, tt))))
 
   -- a key is told as 0 to 4294967295 (docs/BENCH.md, "script")
   pub key_told_up_to_65535 : (r : ℕ) → put_what_shuts_out (replicate 17 0) 0 AKey r (ascii "a key, 0 to 65535")

@@ -37,7 +37,8 @@ turn p q r ss i d before h b f g =
 pub turned : (ss : List Signal) (i : ℕ) (d : Signal) (before after : Bool) → i < length ss → before ≡ any_sent false (take i ss) →
     after ≡ (before || is_sent (get_or ss i d).kind) → after ≡ any_sent false (take (i + 1) ss)
 turned ss i d before after h b a =
-    a ∙ (ap (λ t. t || is_sent (get_or ss i d).kind) b ∙ sym (ap (any_sent false) (grown ss i d h) ∙ any_more false (take i ss) (get_or ss i d)))
+    a ∙ (ap (λ t. t || is_sent (get_or ss i d).kind) b
+    ∙ sym (ap (any_sent false) (grown ss i d h) ∙ any_more false (take i ss) (get_or ss i d)))
 
 -- the whole list, where one stands in it
 whole : (ss : List Signal) (i : ℕ) → i ≡ length ss → take i ss ≡ ss

@@ -11,7 +11,7 @@ use seplogic.Ra.Ura.{Ura}
 use base.Logic.{SProp, ent}
 use contract.Lifetimes.{Lfts}
 use contract.Monad.{Fun, fact, fact_mono}
-use denote.Ref.{Bor}
+use denote.MutBor.{MutBor}
 use types.Logic.{Logic}
 use prog.Memory.{Memory}
 use prog.Routine.{Routine}
@@ -23,9 +23,9 @@ use Rattle.signal.specs.declared.SentCause.TheVariants.{AsReceived}
 use Rattle.signal.specs.declared.Signal.{Signal}
 use Rattle.signal_words.specs.contracts.put_signals as put_signals
 
--- something that is lent; where it stands says nothing here
-abbrev lent : {X : Type 0} → X → Bor X
-lent xs = record { ref_ptr = (0, 0); now = xs }
+-- something that is lent to be changed; where it stands says nothing here
+abbrev lent_mut : {X : Type 0} → X → MutBor X
+lent_mut xs = record { ref_ptr = (0, 0); ghost_name = 0; now = xs }
 
 module _ {M : Type 1} {𝓤 : Ura M} (𝓛 : Logic 𝓤) (memory : Memory → SProp 𝓤) (run : Routine → Fun 𝓤) where
   -- it is false: the logic proves falsity from it
@@ -35,8 +35,8 @@ module _ {M : Type 1} {𝓤 : Ura M} (𝓛 : Logic 𝓤) (memory : Memory → SP
   -- put_signals: of a buffer, a place and four signals, the place answered, and what is left in the buffer
   abbrev put_signals_shuts_out : List ℕ → ℕ → List Signal → ℕ → List ℕ → Type 1
   put_signals_shuts_out out at signals r left =
-      (κs : Lfts 1) → NeverHolds ((put_signals.clauses 𝓛 memory run κs (lent out, (at, (signals, tt)))
-      ).ensures tt r (lent left, (at, (signals, tt))))
+      (κs : Lfts 1) → NeverHolds ((put_signals.clauses 𝓛 memory run κs (lent_mut out, (at, (signals, tt)))
+      ).ensures tt r (lent_mut left, (at, (signals, tt))))
 
   -- no comma stands before the first signal
   pub comma_before_the_first : (r : ℕ) → put_signals_shuts_out (replicate 13 0) 0 (places (timer_start ∷ [])) r (ascii ", timer start")

@@ -5,7 +5,7 @@ use Rattle.lines.specs.Lines.{ascii}
 use Rattle.signal.specs.declared.CauseCode.{CauseCode}
 use Rattle.signal.specs.declared.CauseCode.TheVariants.{Section66, CallRejected}
 use Rattle.signal.specs.declared.Kind.{Kind}
-use Rattle.signal.specs.declared.Kind.TheVariants.{NoSignal, TimerStart, TimerStop, Switch, CallingRelease, IncumbentRelease}
+use Rattle.signal.specs.declared.Kind.TheVariants.{TimerStart, TimerStop, Switch, CallingRelease, IncumbentRelease}
 use Rattle.signal.specs.declared.Kind.TheVariants.{ReroutingRelease, SetupRequest, ConnectRequest, Rejection, CalledRelease}
 use Rattle.signal.specs.declared.SentCause.{SentCause}
 use Rattle.signal.specs.declared.SentCause.TheVariants.{Absent, Numbered, AsReceived}

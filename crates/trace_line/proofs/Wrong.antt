@@ -10,7 +10,7 @@ use seplogic.Ra.Ura.{Ura}
 use base.Logic.{SProp, ent}
 use contract.Lifetimes.{Lfts}
 use contract.Monad.{Fun, fact, fact_mono}
-use denote.Ref.{Bor}
+use denote.MutBor.{MutBor}
 use types.Logic.{Logic}
 use prog.Memory.{Memory}
 use prog.Routine.{Routine}
@@ -23,9 +23,9 @@ use Rattle.trace_line.specs.declared.Columns.{Columns}
 use Rattle.trace_line.specs.contracts.put_first_line as put_first_line
 use Rattle.trace_line.specs.contracts.put_line as put_line
 
--- something that is lent; where it stands says nothing here
-abbrev lent : {X : Type 0} → X → Bor X
-lent xs = record { ref_ptr = (0, 0); now = xs }
+-- something that is lent to be changed; where it stands says nothing here
+abbrev lent_mut : {X : Type 0} → X → MutBor X
+lent_mut xs = record { ref_ptr = (0, 0); ghost_name = 0; now = xs }
 
 module _ {M : Type 1} {𝓤 : Ura M} (𝓛 : Logic 𝓤) (memory : Memory → SProp 𝓤) (run : Routine → Fun 𝓤) where
   -- it is false: the logic proves falsity from it
@@ -35,8 +35,8 @@ module _ {M : Type 1} {𝓤 : Ura M} (𝓛 : Logic 𝓤) (memory : Memory → SP
   -- put_first_line: of a buffer, a place and the columns, the place answered, and what is left in the buffer
   abbrev put_first_line_shuts_out : List ℕ → ℕ → Columns → ℕ → List ℕ → Type 1
   put_first_line_shuts_out out at columns r left =
-      (κs : Lfts 1) → NeverHolds ((put_first_line.clauses 𝓛 memory run κs (lent out, (at, (columns, tt)))
-      ).ensures tt r (lent left, (at, (columns, tt))))
+      (κs : Lfts 1) → NeverHolds ((put_first_line.clauses 𝓛 memory run κs (lent_mut out, (at, (columns, tt)))
+      ).ensures tt r (lent_mut left, (at, (columns, tt))))
 
   -- 01, "The trace": the first line is always those fixed bytes
   pub first_line_names_another_column :
@@ -56,8 +56,8 @@ module _ {M : Type 1} {𝓤 : Ura M} (𝓛 : Logic 𝓤) (memory : Memory → SP
   -- put_line: of a buffer, a place, the columns, a count and an outcome, the same; here of one whose numbers all differ
   abbrev put_line_shuts_out : List ℕ → ℕ → Columns → ℕ → Outcome → ℕ → List ℕ → Type 1
   put_line_shuts_out out at columns count outcome r left =
-      (κs : Lfts 1) → NeverHolds ((put_line.clauses 𝓛 memory run κs (lent out, (at, (columns, (count, (outcome, tt)))))
-      ).ensures tt r (lent left, (at, (columns, (count, (outcome, tt))))))
+      (κs : Lfts 1) → NeverHolds ((put_line.clauses 𝓛 memory run κs (lent_mut out, (at, (columns, (count, (outcome, tt)))))
+      ).ensures tt r (lent_mut left, (at, (columns, (count, (outcome, tt))))))
 
   -- 01, "The trace": the incumbent stands before the rerouting connection
   pub rerouting_before_incumbent :

@@ -24,7 +24,9 @@ first_line Watch = ascii "line answer state incumbent rerouting number last sign
 
 -- "answer, state, incumbent, rerouting": 0 for a connection that the state does not hold
 unfoldable pub numbers_text : Answer → State → List ℕ
-numbers_text a s = field_text (answer_number a) ++ (field_text (state_number s) ++ (field_text (incumbent_of s) ++ field_text (rerouting_of s)))
+numbers_text a s =
+    field_text (answer_number a)
+    ++ (field_text (state_number s) ++ (field_text (incumbent_of s) ++ field_text (rerouting_of s)))
 
 -- the incarnation number; in the watch also the last number given, and the signals
 unfoldable pub rest_text : Columns → Outcome → List ℕ

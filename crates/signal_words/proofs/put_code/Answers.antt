@@ -1,0 +1,7 @@
+-- Nothing, where the Cause code is none.
+use Rattle.std.proofs.Common.{sym}
+use Rattle.lines.proofs.Laws.{put_none}
+use Rattle.signal_words.proofs.put_code.Goals as goal
+
+pub returns-in-Section66 : goal.returns-in-Section66
+returns-in-Section66 c = rw c.in-Section66.is (sym (put_none _))
