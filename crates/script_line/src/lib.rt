@@ -47,6 +47,7 @@ pub enum Naming {
 }
 
 // Nothing may follow.
+#[tactic(auto, unfolding(crate::specs::Script::read_end))]
 fn end(line: &[u8], at: usize, key: u32, act: Act) -> Parsed
     ensures { result ≡ read_end key act (drop at line.now) }
 {
@@ -63,6 +64,7 @@ fn services(line: &[u8], at: usize, key: u32, hard: bool, soft: Soft) -> Parsed
     end(line, at, key, Act::Opens(Wanted::Named(services)))
 }
 
+#[tactic(auto, using(line_reader::proofs::Laws::behind), unfolding(crate::specs::Script::read_soft))]
 fn soft(line: &[u8], at: usize, key: u32, hard: bool) -> Parsed
     ensures { result ≡ read_soft key hard (drop at line.now) }
 {
@@ -78,6 +80,7 @@ fn soft(line: &[u8], at: usize, key: u32, hard: bool) -> Parsed
     Parsed::Expected(What::ASoftService)
 }
 
+#[tactic(auto, using(line_reader::proofs::Laws::behind), unfolding(crate::specs::Script::read_open))]
 fn open(line: &[u8], at: usize, key: u32) -> Parsed
     ensures { result ≡ read_open key (drop at line.now) }
 {
@@ -93,6 +96,7 @@ fn open(line: &[u8], at: usize, key: u32) -> Parsed
     Parsed::Expected(What::HardOrEnd)
 }
 
+#[tactic(auto, using(line_reader::proofs::Laws::behind), unfolding(crate::specs::Script::read_policy))]
 fn policy(line: &[u8], at: usize, key: u32, connection: u16) -> Parsed
     ensures { result ≡ read_policy key connection (drop at line.now) }
 {
@@ -115,6 +119,7 @@ fn policy(line: &[u8], at: usize, key: u32, connection: u16) -> Parsed
     Parsed::Expected(What::YesOrNo)
 }
 
+#[tactic(auto, using(crate::proofs::Laws::numbers), unfolding(crate::specs::Script::read_connect))]
 fn connect(line: &[u8], at: usize, key: u32) -> Parsed
     ensures { result ≡ read_connect key (drop at line.now) }
 {
@@ -126,6 +131,7 @@ fn connect(line: &[u8], at: usize, key: u32) -> Parsed
 }
 
 // A switchover by its name or its number.
+#[tactic(auto, unfolding(crate::specs::Script::read_code))]
 fn code(line: &[u8], at: usize) -> Reading
     ensures { result ≡ read_code (first_word (drop at line.now)) }
 {
@@ -138,6 +144,7 @@ fn code(line: &[u8], at: usize) -> Reading
     number(line, at, 255)
 }
 
+#[tactic(auto, using(line_reader::proofs::Laws::behind), unfolding(crate::specs::Script::read_incarnation))]
 fn incarnation(line: &[u8], at: usize, key: u32, code: u8) -> Parsed
     ensures { result ≡ read_incarnation key code (drop at line.now) }
 {
@@ -153,6 +160,7 @@ fn incarnation(line: &[u8], at: usize, key: u32, code: u8) -> Parsed
     }
 }
 
+#[tactic(auto, using(line_reader::proofs::Laws::behind, crate::proofs::Laws::code_at_most), unfolding(crate::specs::Script::read_setup))]
 fn setup(line: &[u8], at: usize, key: u32) -> Parsed
     ensures { result ≡ read_setup key (drop at line.now) }
 {
@@ -163,6 +171,7 @@ fn setup(line: &[u8], at: usize, key: u32) -> Parsed
     }
 }
 
+#[tactic(auto, using(crate::proofs::Laws::numbers), unfolding(crate::specs::Script::read_calling_cause))]
 fn calling_cause(line: &[u8], at: usize, key: u32) -> Parsed
     ensures { result ≡ read_calling_cause key (drop at line.now) }
 {
@@ -183,6 +192,7 @@ fn calling_cause(line: &[u8], at: usize, key: u32) -> Parsed
     }
 }
 
+#[tactic(auto, using(line_reader::proofs::Laws::behind), unfolding(crate::specs::Script::read_calling))]
 fn calling(line: &[u8], at: usize, key: u32) -> Parsed
     ensures { result ≡ read_calling key (drop at line.now) }
 {
@@ -196,6 +206,7 @@ fn calling(line: &[u8], at: usize, key: u32) -> Parsed
 }
 
 // The crankback of a release, or nothing; `what` is told of any other word.
+#[tactic(auto, using(line_reader::proofs::Laws::behind), unfolding(crate::specs::Script::read_crankback))]
 fn crankback(
     line: &[u8],
     at: usize,
@@ -231,6 +242,7 @@ fn crankback(
     Parsed::Expected(what)
 }
 
+#[tactic(auto, using(crate::proofs::Laws::numbers), unfolding(crate::specs::Script::read_called_cause))]
 fn called_cause(line: &[u8], at: usize, key: u32, connection: u16) -> Parsed
     ensures { result ≡ read_called_cause key connection (drop at line.now) }
 {
@@ -253,6 +265,7 @@ fn called_cause(line: &[u8], at: usize, key: u32, connection: u16) -> Parsed
     }
 }
 
+#[tactic(auto, using(line_reader::proofs::Laws::behind), unfolding(crate::specs::Script::read_release))]
 fn release(line: &[u8], at: usize, key: u32, connection: u16) -> Parsed
     ensures { result ≡ read_release key connection (drop at line.now) }
 {
@@ -269,6 +282,7 @@ fn release(line: &[u8], at: usize, key: u32, connection: u16) -> Parsed
     )
 }
 
+#[tactic(auto, using(crate::proofs::Laws::numbers), unfolding(crate::specs::Script::read_called))]
 fn called(line: &[u8], at: usize, key: u32) -> Parsed
     ensures { result ≡ read_called key (drop at line.now) }
 {
@@ -296,6 +310,7 @@ fn arguments(line: &[u8], at: usize, name: Name, key: u32) -> Parsed
     }
 }
 
+#[tactic(auto, using(line_reader::proofs::Laws::behind), unfolding(crate::specs::Script::read_keyed))]
 fn keyed(line: &[u8], at: usize, name: Name) -> Parsed
     ensures { result ≡ read_keyed name (drop at line.now) }
 {
@@ -307,6 +322,7 @@ fn keyed(line: &[u8], at: usize, name: Name) -> Parsed
 }
 
 // An event that is only a key.
+#[tactic(auto, unfolding(crate::specs::Script::plain_name))]
 fn plain_name(line: &[u8]) -> Naming
     ensures { result ≡ plain_name (first_word line.now) }
 {
@@ -329,6 +345,7 @@ fn plain_name(line: &[u8]) -> Naming
 }
 
 // An opening, or an event that may bring more than its key.
+#[tactic(auto, unfolding(crate::specs::Script::full_name))]
 fn full_name(line: &[u8]) -> Naming
     ensures { result ≡ full_name (first_word line.now) }
 {
@@ -350,6 +367,7 @@ fn full_name(line: &[u8]) -> Naming
     Naming::NoName
 }
 
+#[tactic(auto, unfolding(crate::specs::Script::name_of))]
 fn named(line: &[u8]) -> Naming
     ensures { result ≡ name_of (first_word line.now) }
 {
@@ -384,6 +402,7 @@ fn name_at(name: Name, node: Node) -> Name
     }
 }
 
+#[tactic(auto, using(line_reader::proofs::Laws::behind), unfolding(crate::specs::Script::parsed_of))]
 pub fn parse(node: Node, line: &[u8]) -> Parsed
     ensures { result ≡ parsed_of node line.now }
 {
