@@ -17,8 +17,8 @@ loop-i-preserved c =
     let key = c.args.key in (
       omega arith,
       rw c.note-s.ensures
-      (sym (until_at (λ s. is_enough s key) (λ s i c. places_of s key i c.key) c.args.t.now _ c.loop-i.i c.loop-i.s c.loop-i-test.true false (sym c.if-enough.ensures))
-      ∙ c.loop-i.invariant.1),
+          (sym (until_at (λ s. is_enough s key) (λ s i c. places_of s key i c.key) c.args.t.now _ c.loop-i.i c.loop-i.s c.loop-i-test.true false (sym c.if-enough.ensures))
+          ∙ c.loop-i.invariant.1),
     )
 
 pub returns : goal.returns

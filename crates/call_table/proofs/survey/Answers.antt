@@ -17,8 +17,8 @@ loop-i-preserved c =
       omega arith,
       rw c.step-s.ensures (sym (next_at (λ s i c. step_of s key i c) ys i c.loop-i.s _ l) ∙ c.loop-i.invariant.1),
       elim c.if-i-keys.branch [
-        then-i-keys w ↦ rw w.keys-is (sym (key_at (λ (c : Call). c.key) c.loop-i.keys ys i _ l) ∙ c.loop-i.invariant.2)
-      | else-i-keys w ↦ rw w.keys-is (sym (key_past (λ (c : Call). c.key) c.loop-i.keys ys i emptied l w.if-i-keys.false) ∙ c.loop-i.invariant.2)
+        | then-i-keys w ↦ rw w.keys-is (sym (key_at (λ (c : Call). c.key) c.loop-i.keys ys i _ l) ∙ c.loop-i.invariant.2)
+        | else-i-keys w ↦ rw w.keys-is (sym (key_past (λ (c : Call). c.key) c.loop-i.keys ys i emptied l w.if-i-keys.false) ∙ c.loop-i.invariant.2)
       ],
     )
 
