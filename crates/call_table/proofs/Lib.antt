@@ -1,4 +1,3 @@
-pub mod Shape
 pub mod Keys
 pub mod Search
 pub mod Stopped

@@ -11,7 +11,7 @@ use seplogic.Ra.Ura.{Ura}
 use base.Logic.{SProp, ent}
 use contract.Lifetimes.{Lfts}
 use contract.Monad.{Fun, fact, fact_mono}
-use denote.Ref.{Bor}
+use denote.MutBor.{MutBor}
 use types.Logic.{Logic}
 use prog.Memory.{Memory}
 use prog.Routine.{Routine}
@@ -42,9 +42,9 @@ use Rattle.call_table.specs.contracts.handle as handle
 use Rattle.call_table.specs.contracts.handle_fit as handle_fit
 use Rattle.call_table.specs.contracts.handle64 as handle64
 
--- something that is lent; where it stands says nothing here
-abbrev lent : {X : Type 0} → X → Bor X
-lent xs = record { ref_ptr = (0, 0); now = xs }
+-- something that is lent to be changed; where it stands says nothing here
+abbrev lent_mut : {X : Type 0} → X → MutBor X
+lent_mut xs = record { ref_ptr = (0, 0); ghost_name = 0; now = xs }
 
 -- a call in Idle, with number 1
 abbrev idle : ℕ → Call
@@ -66,8 +66,8 @@ module _ {M : Type 1} {𝓤 : Ura M} (𝓛 : Logic 𝓤) (memory : Memory → SP
   -- handle: of a row, a key and what is requested, what is answered, and the row that is left
   abbrev handle_at_shuts_out : Node → List Call → ℕ → Act → Done → List Call → Type 1
   handle_at_shuts_out node t key act r left =
-      (κs : Lfts 1) → NeverHolds ((handle.clauses 𝓛 memory run κs (lent t, (key, (requested node act, tt)))
-      ).ensures tt r (lent left, (key, (requested node act, tt))))
+      (κs : Lfts 1) → NeverHolds ((handle.clauses 𝓛 memory run κs (lent_mut t, (key, (requested node act, tt)))
+      ).ensures tt r (lent_mut left, (key, (requested node act, tt))))
 
   abbrev handle_shuts_out : List Call → ℕ → Act → Done → List Call → Type 1
   handle_shuts_out t key act r left = handle_at_shuts_out Source t key act r left
@@ -147,8 +147,8 @@ module _ {M : Type 1} {𝓤 : Ura M} (𝓛 : Logic 𝓤) (memory : Memory → SP
   -- handle_fit: the same of a row that is not checked
   abbrev handle_fit_shuts_out : List Call → ℕ → Act → Done → List Call → Type 1
   handle_fit_shuts_out t key act r left =
-      (κs : Lfts 1) → NeverHolds ((handle_fit.clauses 𝓛 memory run κs (lent t, (key, (requested Source act, tt)))
-      ).ensures tt r (lent left, (key, (requested Source act, tt))))
+      (κs : Lfts 1) → NeverHolds ((handle_fit.clauses 𝓛 memory run κs (lent_mut t, (key, (requested Source act, tt)))
+      ).ensures tt r (lent_mut left, (key, (requested Source act, tt))))
 
   -- a key not on record is 105 (01, "Numbers of refusal")
   pub unknown_key_told_as_zero :

@@ -1,8 +1,8 @@
 // The table of calls, lent as a row of records, at either end: openings and events by key, with the refusals 101 to 105 before the record's
 // own. The two ends have a table each; which end a row of records is of, its caller says with each act.
 //
-// Few thin functions touch the lent row (survey, put, handle, look, fetch, handle_fit) and one the row by value (handle64): each is an
-// instance of a walk of the crate lent. All that they decide, covered code decides on plain values.
+// Few thin functions touch the lent row (survey, put, handle, look, fetch, handle_fit) and one the row by value (handle64). The loops of
+// survey and look keep what the crate lent says of a scan. All that they decide, the other functions decide on plain values.
 #![tactic(auto)]
 
 ghost use Rattle.std.specs.Prelude.{◌≡◌, eqb, set, not, ◌&&◌};
@@ -493,7 +493,7 @@ pub fn handle_fit(t: &mut [Call], key: u32, asked: NodeAct) -> Done
     d.done
 }
 
-// The checked entry over a table of 64 by value, for callers that need no walk of their own.
+// The checked entry over a table of 64 by value, for callers that lend no row.
 pub fn handle64(table: [Call; 64], key: u32, asked: NodeAct) -> SixtyFour
     ensures { (result.done ≡ (ran_of (half_of asked.node) table key asked.act).done)
         × (result.table ≡ table_of (half_of asked.node) table key asked.act) }

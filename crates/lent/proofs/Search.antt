@@ -1,33 +1,27 @@
--- A test, by its outcome; and the laws of `read_until` that a loop over the list needs. Assumes nothing.
-use mathlib.Core.Path.{◌≡◌, refl, sym, ◌∙◌, ap, subst}
+-- What is known from i on, at an element and past the last: the laws of `read_from` and `read_until` that a loop over a list needs.
+-- Assumes nothing.
+use mathlib.Core.Path.{◌≡◌, sym, ◌∙◌, ap}
 use Prim.Native.Nat.{ℕ, ◌+◌, ◌<◌}
 use native.Mathlib.Numerals.{add-one}
-use mathlib.Core.Bool.{Bool, cond, false, not, true}
+use mathlib.Core.Bool.{Bool, cond}
 use mathlib.Core.List.{List}
 use lib.ListN.{length, get_or, drop}
 use lib.Seq.{drop-cons, drop-length}
-use lib.Dec.{T}
-use Rattle.lent.specs.Search.{read_until}
+use Rattle.lent.specs.Search.{read_from, read_until}
 
-pub by_test {ℓ} : {X : Type ℓ} (t : Bool) → (t ≡ true → X) → (t ≡ false → X) → X
-by_test true a b = a refl
-by_test false a b = b refl
+-- read to the end: where there is an element at i, and at the end
+module _ {X Y : Type 0} (step : Y → ℕ → X → Y) (ys : List X) (i : ℕ) (v : Y) where
+  pub next_at : (d : X) → i < length ys → read_from step i v (drop i ys) ≡ read_from step (i + 1) (step v i (get_or ys i d)) (drop (i + 1) ys)
+  unfolding read_from
+  next_at d l =
+      ap (read_from step i v) (drop-cons ys i d l)
+      ∙ ap (λ (n : ℕ). read_from step (i + 1) (step v i (get_or ys i d)) (drop n ys)) (sym (add-one i))
 
-pub is_true : (t : Bool) → t ≡ true → T t
-is_true t e = subst T (sym e) tt
+  pub end_at : i ≡ length ys → read_from step i v (drop i ys) ≡ v
+  unfolding read_from
+  end_at e = ap (λ (n : ℕ). read_from step n v (drop n ys)) e ∙ ap (read_from step (length ys) v) (drop-length ys)
 
-pub is_false : (t : Bool) → t ≡ false → T (not t)
-is_false t e = subst (λ (u : Bool). T (not u)) (sym e) tt
-
-pub yes_is : (t : Bool) → T t → t ≡ true
-yes_is true _ = refl
-yes_is false a = absurd a
-
-pub no_is : (t : Bool) → T (not t) → t ≡ false
-no_is true a = absurd a
-no_is false _ = refl
-
--- what is known from i on: where there is a record at i, by whether more is needed; and at the end
+-- read until it is enough: where there is an element at i, by whether more is needed; and at the end
 module _ {X Y : Type 0} (enough : Y → Bool) (step : Y → ℕ → X → Y) (ys : List X) (d : X) (i : ℕ) (v : Y) where
   abbrev onward : Y
   onward = read_until enough step i v (drop i ys)
