@@ -79,7 +79,7 @@ module _ (d : Demands) (x : Standing) where
   by_event P setup other (Connect n agreed) = other (Connect n agreed) refl refl refl
   by_event P setup other (Setup code number) = setup code number
   by_event P setup other (FromParty cause) = other (FromParty cause) refl refl refl
-  by_event P setup other (FromDomain n cause crankback) = other (FromDomain n cause crankback) refl refl refl
+  by_event P setup other (FromDomain n cause tried) = other (FromDomain n cause tried) refl refl refl
   by_event P setup other Ready = other Ready refl refl refl
   by_event P setup other Expiry = other Expiry refl refl refl
 

@@ -13,8 +13,8 @@ use Rattle.rows.specs.declared.State.TheVariants.{Awaiting, SoftInitiated}
 use Rattle.destination_rows.specs.Rows.{at_destination, calling_at_destination}
 
 abbrev pub destination_calling : Bool → ℕ → ReceivedCause → Crankback → Fresh → State → Effect
-destination_calling hard c cause crankback next s =
-    at_destination s next cause (calling_at_destination (phase_of s) hard (is_next next) (role_of s c) (class_of cause) crankback)
+destination_calling hard c cause tried next s =
+    at_destination s next cause (calling_at_destination (phase_of s) hard (is_next next) (role_of s c) (class_of cause) tried)
 
 -- the same in the states where crankback is not read
 abbrev pub setup_calling : Bool → ℕ → ReceivedCause → Fresh → ℕ → ℕ → Effect

@@ -34,7 +34,7 @@ meaningless_is hard soft s remote NoPath = ap not (at_is 4 s)
 meaningless_is hard soft s remote (Connect c agreed) = ap not (at_is 5 s)
 meaningless_is hard soft s remote (Setup code number) = ap (λ b. b || not (has_service hard soft)) (at_is 0 s)
 meaningless_is hard soft s remote (FromParty cause) = at_is 0 s
-meaningless_is hard soft s remote (FromDomain c cause crankback) = at_is 0 s
+meaningless_is hard soft s remote (FromDomain c cause tried) = at_is 0 s
 meaningless_is hard soft s remote Ready = λ i. not (at_is 3 s i || at_is 6 s i)
 meaningless_is hard soft s remote Expiry = ap not (hard_is s)
 
@@ -94,7 +94,7 @@ retired_is x (Connect c agreed) = refl
 retired_is x (Setup code number) =
     λ i. taken_is x code number i && (immediate_is code i && (holds_incumbent (phase_of x.state) && holds_rerouting (phase_of x.state)))
 retired_is x (FromParty cause) = refl
-retired_is x (FromDomain c cause crankback) = refl
+retired_is x (FromDomain c cause tried) = refl
 retired_is x Ready = refl
 retired_is x Expiry = refl
 
@@ -107,7 +107,7 @@ dropped_is x (Connect c agreed) =
     λ i. at_is 5 x.state i && (not (names_unheld_lem x.state x.remote (Connect c agreed) i) && not agreed)
 dropped_is x (Setup code number) = λ i. taken_is x code number i && holds_rerouting (phase_of x.state)
 dropped_is x (FromParty cause) = refl
-dropped_is x (FromDomain c cause crankback) =
+dropped_is x (FromDomain c cause tried) =
     λ i.
     at_is 5 x.state i
     && ((is_first (is_incumbent x.state c) (is_rerouting x.state c) ∙ its_incumbent x.state c) i && (x.hard && missing_is cause i))

@@ -33,7 +33,7 @@ meaningless_here hard soft s NoPath = not (is_at 4 s)
 meaningless_here hard soft s (Connect c agreed) = not (is_at 5 s)
 meaningless_here hard soft s (Setup code number) = is_null s || not (has_service hard soft)
 meaningless_here hard soft s (FromParty cause) = is_null s
-meaningless_here hard soft s (FromDomain c cause crankback) = is_null s
+meaningless_here hard soft s (FromDomain c cause tried) = is_null s
 meaningless_here hard soft s Ready = not (is_at 3 s || is_at 6 s)
 meaningless_here hard soft s Expiry = not (is_hard s)
 
@@ -67,7 +67,7 @@ retired_away x (Setup code number) =
     is_taken x code number
     && (is_immediate code && (holds_incumbent (phase_of x.state) && holds_rerouting (phase_of x.state)))
 retired_away x (FromParty cause) = false
-retired_away x (FromDomain c cause crankback) = false
+retired_away x (FromDomain c cause tried) = false
 retired_away x Ready = false
 retired_away x Expiry = false
 
@@ -80,7 +80,7 @@ dropped_away x NoPath = false
 dropped_away x (Connect c agreed) = is_at 5 x.state && (not (names_not_held x.state (Connect c agreed)) && not agreed)
 dropped_away x (Setup code number) = is_taken x code number && holds_rerouting (phase_of x.state)
 dropped_away x (FromParty cause) = false
-dropped_away x (FromDomain c cause crankback) =
+dropped_away x (FromDomain c cause tried) =
     is_at 5 x.state && (is_its_incumbent x.state c && (x.hard && has_no_cause cause))
 dropped_away x Ready = false
 dropped_away x Expiry = false
@@ -105,7 +105,7 @@ meaningless_case phase hard soft FoundNone = not (is_in 4 phase)
 meaningless_case phase hard soft (Connected role agreed) = not (is_in 5 phase)
 meaningless_case phase hard soft (SetUp asked late) = is_in 0 phase || not (has_service hard soft)
 meaningless_case phase hard soft (PartyReleased class) = is_in 0 phase
-meaningless_case phase hard soft (DomainReleased role class crankback) = is_in 0 phase
+meaningless_case phase hard soft (DomainReleased role class tried) = is_in 0 phase
 meaningless_case phase hard soft SaidReady = not (is_in 3 phase || is_in 6 phase)
 meaningless_case phase hard soft Expired = not (is_hard_phase phase)
 
@@ -125,7 +125,7 @@ retired_away_in phase hard soft room (Connected role agreed) = false
 retired_away_in phase hard soft room (SetUp asked late) =
     is_taken_in phase hard soft room asked late && (asks_immediate asked && (holds_incumbent phase && holds_rerouting phase))
 retired_away_in phase hard soft room (PartyReleased class) = false
-retired_away_in phase hard soft room (DomainReleased role class crankback) = false
+retired_away_in phase hard soft room (DomainReleased role class tried) = false
 retired_away_in phase hard soft room SaidReady = false
 retired_away_in phase hard soft room Expired = false
 
@@ -137,7 +137,7 @@ dropped_away_in phase hard soft room (Connected role agreed) =
     is_in 5 phase && (not (names_unheld phase (Connected role agreed)) && not agreed)
 dropped_away_in phase hard soft room (SetUp asked late) = is_taken_in phase hard soft room asked late && holds_rerouting phase
 dropped_away_in phase hard soft room (PartyReleased class) = false
-dropped_away_in phase hard soft room (DomainReleased role class crankback) =
+dropped_away_in phase hard soft room (DomainReleased role class tried) =
     is_in 5 phase && (same_role role NamesIncumbent && (hard && came_none class))
 dropped_away_in phase hard soft room SaidReady = false
 dropped_away_in phase hard soft room Expired = false

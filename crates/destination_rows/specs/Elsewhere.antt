@@ -44,7 +44,7 @@ lacks_meaning_at_destination phase hard soft FoundNone = not (same_phase phase A
 lacks_meaning_at_destination phase hard soft (Connected role agreed) = not (same_phase phase AtSoftProceeding)
 lacks_meaning_at_destination phase hard soft (SetUp asked late) = has_no_service hard soft
 lacks_meaning_at_destination phase hard soft (PartyReleased class) = false
-lacks_meaning_at_destination phase hard soft (DomainReleased role class crankback) = false
+lacks_meaning_at_destination phase hard soft (DomainReleased role class tried) = false
 lacks_meaning_at_destination phase hard soft SaidReady = not (initiated_phase phase)
 lacks_meaning_at_destination phase hard soft Expired = not (is_hard_phase phase)
 
@@ -527,7 +527,7 @@ destination_items phase FoundNone = soft_path_lost
 destination_items phase (Connected role agreed) = connects_at_destination
 destination_items phase (SetUp asked late) = setups_at_destination phase
 destination_items phase (PartyReleased class) = called_releases_at_destination phase
-destination_items phase (DomainReleased role class crankback) = calling_releases_at_destination phase role
+destination_items phase (DomainReleased role class tried) = calling_releases_at_destination phase role
 destination_items phase SaidReady = readies_at_destination
 destination_items phase Expired = expiries_at_destination
 
@@ -612,7 +612,7 @@ destination_departed phase FoundNone = []
 destination_departed phase (Connected role agreed) = departed_connects
 destination_departed phase (SetUp asked late) = departed_setups_at_destination phase
 destination_departed phase (PartyReleased class) = departed_called_releases
-destination_departed phase (DomainReleased role class crankback) = departed_calling_releases phase
+destination_departed phase (DomainReleased role class tried) = departed_calling_releases phase
 destination_departed phase SaidReady = []
 destination_departed phase Expired = []
 
@@ -648,7 +648,7 @@ printed_for FoundNone = 4 ∷ []
 printed_for (Connected role agreed) = printed_connect role
 printed_for (SetUp asked late) = 1 ∷ 2 ∷ 3 ∷ 4 ∷ 5 ∷ 6 ∷ 7 ∷ []
 printed_for (PartyReleased class) = 1 ∷ 2 ∷ 3 ∷ 4 ∷ 5 ∷ 6 ∷ 7 ∷ []
-printed_for (DomainReleased role class crankback) = printed_for_named role
+printed_for (DomainReleased role class tried) = printed_for_named role
 printed_for SaidReady = 3 ∷ 6 ∷ []
 printed_for Expired = 2 ∷ 3 ∷ []
 

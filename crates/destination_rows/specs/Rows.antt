@@ -214,15 +214,15 @@ switchover_dropped CameOther = telling (forwarding CameOther) (retiring plainly 
 -- Soft Initiated, the rerouting connection: Idle, whatever the cause (6.3.4.5 case 5). A connection that is not held: 107; Hard Indicated
 -- holds none
 abbrev pub calling_at_destination : Phase → Bool → Bool → Role → Class → Crankback → Rule
-calling_at_destination Null hard room role class crankback = refuses NoMeaning Null
-calling_at_destination Idle hard room role class crankback = of_incumbent role Idle (idle_lost hard class)
-calling_at_destination HardIndicated hard room role class crankback = refuses NotHeld HardIndicated
-calling_at_destination HardInitiated hard room role class crankback = of_rerouting role HardInitiated (hard_dropped class)
-calling_at_destination SoftTriggered hard room role class crankback = of_incumbent role SoftTriggered triggered_lost
-calling_at_destination SoftProceeding hard room role class crankback =
-    of_either role SoftProceeding (proceeding_lost hard class) (soft_crankback crankback room)
-calling_at_destination SoftInitiated hard room role class crankback = of_either role SoftInitiated (setup_lost hard class) back_to_idle
-calling_at_destination Awaiting hard room role class crankback = of_either role Awaiting (switchover_lost class) (switchover_dropped class)
+calling_at_destination Null hard room role class tried = refuses NoMeaning Null
+calling_at_destination Idle hard room role class tried = of_incumbent role Idle (idle_lost hard class)
+calling_at_destination HardIndicated hard room role class tried = refuses NotHeld HardIndicated
+calling_at_destination HardInitiated hard room role class tried = of_rerouting role HardInitiated (hard_dropped class)
+calling_at_destination SoftTriggered hard room role class tried = of_incumbent role SoftTriggered triggered_lost
+calling_at_destination SoftProceeding hard room role class tried =
+    of_either role SoftProceeding (proceeding_lost hard class) (soft_crankback tried room)
+calling_at_destination SoftInitiated hard room role class tried = of_either role SoftInitiated (setup_lost hard class) back_to_idle
+calling_at_destination Awaiting hard room role class tried = of_either role Awaiting (switchover_lost class) (switchover_dropped class)
 
 -- ---- the table: the row of a case; timer expiry (6.3.5.10) as at either end
 abbrev pub destination_row_in : Phase → Bool → Soft → Bool → Happening → Rule
@@ -232,7 +232,7 @@ destination_row_in phase hard soft room FoundNone = no_path_at_destination phase
 destination_row_in phase hard soft room (Connected role agreed) = connect_at_destination phase role agreed
 destination_row_in phase hard soft room (SetUp asked late) = setup_at_destination phase hard soft room asked late
 destination_row_in phase hard soft room (PartyReleased class) = called_at_destination phase hard class
-destination_row_in phase hard soft room (DomainReleased role class crankback) = calling_at_destination phase hard room role class crankback
+destination_row_in phase hard soft room (DomainReleased role class tried) = calling_at_destination phase hard room role class tried
 destination_row_in phase hard soft room SaidReady = ready_at_destination phase
 destination_row_in phase hard soft room Expired = expiry_row phase
 

@@ -13,7 +13,7 @@ reported NoPath = []
 reported (Connect c agreed) = []
 reported (Setup code number) = []
 reported (FromParty cause) = []
-reported (FromDomain c cause crankback) = c ∷ []
+reported (FromDomain c cause tried) = c ∷ []
 reported Ready = []
 reported Expiry = []
 
@@ -25,7 +25,7 @@ received_in NoPath = NoCause
 received_in (Connect c agreed) = NoCause
 received_in (Setup code number) = NoCause
 received_in (FromParty cause) = cause
-received_in (FromDomain c cause crankback) = cause
+received_in (FromDomain c cause tried) = cause
 received_in Ready = NoCause
 received_in Expiry = NoCause
 
@@ -37,7 +37,7 @@ setup_number NoPath = []
 setup_number (Connect c agreed) = []
 setup_number (Setup code number) = number ∷ []
 setup_number (FromParty cause) = []
-setup_number (FromDomain c cause crankback) = []
+setup_number (FromDomain c cause tried) = []
 setup_number Ready = []
 setup_number Expiry = []
 
@@ -49,7 +49,7 @@ number_brought NoPath = 0
 number_brought (Connect c agreed) = 0
 number_brought (Setup code number) = number
 number_brought (FromParty cause) = 0
-number_brought (FromDomain c cause crankback) = 0
+number_brought (FromDomain c cause tried) = 0
 number_brought Ready = 0
 number_brought Expiry = 0
 
@@ -60,7 +60,7 @@ is_expiry NoPath = false
 is_expiry (Connect c agreed) = false
 is_expiry (Setup code number) = false
 is_expiry (FromParty cause) = false
-is_expiry (FromDomain c cause crankback) = false
+is_expiry (FromDomain c cause tried) = false
 is_expiry Ready = false
 is_expiry Expiry = true
 
@@ -71,6 +71,6 @@ is_from_party NoPath = false
 is_from_party (Connect c agreed) = false
 is_from_party (Setup code number) = false
 is_from_party (FromParty cause) = true
-is_from_party (FromDomain c cause crankback) = false
+is_from_party (FromDomain c cause tried) = false
 is_from_party Ready = false
 is_from_party Expiry = false

@@ -79,7 +79,7 @@ is_setup_lem PathFound n numbered = absurd (no_number numbered)
 is_setup_lem NoPath n numbered = absurd (no_number numbered)
 is_setup_lem (Connect k agreed) n numbered = absurd (no_number numbered)
 is_setup_lem (FromParty cause) n numbered = absurd (no_number numbered)
-is_setup_lem (FromDomain k cause crankback) n numbered = absurd (no_number numbered)
+is_setup_lem (FromDomain k cause tried) n numbered = absurd (no_number numbered)
 is_setup_lem Ready n numbered = absurd (no_number numbered)
 is_setup_lem Expiry n numbered = absurd (no_number numbered)
 

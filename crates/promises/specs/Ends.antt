@@ -106,7 +106,7 @@ module _ (s : Sieve) where
   asks_supported c (Connect k agreed) = true
   asks_supported c (Setup code number) = s.supports c code
   asks_supported c (FromParty cause) = true
-  asks_supported c (FromDomain k cause crankback) = true
+  asks_supported c (FromDomain k cause tried) = true
   asks_supported c Ready = true
   asks_supported c Expiry = true
 

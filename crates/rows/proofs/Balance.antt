@@ -177,7 +177,7 @@ got_is s n remote NoPath known = refl
 got_is s n remote (Connect x agreed) known = refl
 got_is s n remote (Setup code number) known = refl
 got_is s n remote (FromParty cause) known = refl
-got_is s n remote (FromDomain x cause crankback) known = named_is s n x (is_incumbent s x) (is_rerouting s x) refl refl known
+got_is s n remote (FromDomain x cause tried) known = named_is s n x (is_incumbent s x) (is_rerouting s x) refl refl known
 got_is s n remote Ready known = refl
 got_is s n remote Expiry known = refl
 

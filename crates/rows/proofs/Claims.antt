@@ -128,7 +128,7 @@ case_hands_on x =
       connect = λ c agreed. refl;
       setup = λ code number. refl;
       from_party = λ got. refl;
-      from_domain = λ c got crankback. refl;
+      from_domain = λ c got tried. refl;
       ready = refl;
       expiry = refl;
     }

@@ -68,12 +68,12 @@ happening_at f FoundNone p = p
 happening_at f (Connected role agreed) p = bool_at (λ a. f (Connected role a)) (role_at (λ r. every_bool (λ a. f (Connected r a))) p role) agreed
 happening_at f (SetUp asked late) p = bool_at (λ l. f (SetUp asked l)) (asking_at (λ a. every_bool (λ l. f (SetUp a l))) p asked) late
 happening_at f (PartyReleased class) p = class_at (λ c. f (PartyReleased c)) p class
-happening_at f (DomainReleased role class crankback) p =
+happening_at f (DomainReleased role class tried) p =
     crankback_at (λ k. f (DomainReleased role class k))
     (class_at (λ c. every_crankback (λ k. f (DomainReleased role c k)))
     (role_at (λ r. every_class (λ c. every_crankback (λ k. f (DomainReleased r c k)))) p role)
     class)
-    crankback
+    tried
 happening_at f SaidReady p = p
 happening_at f Expired p = p
 

@@ -130,7 +130,7 @@ expiry_is s remote NoPath = refl
 expiry_is s remote (Connect x agreed) = refl
 expiry_is s remote (Setup code number) = refl
 expiry_is s remote (FromParty cause) = refl
-expiry_is s remote (FromDomain x cause crankback) = refl
+expiry_is s remote (FromDomain x cause tried) = refl
 expiry_is s remote Ready = refl
 expiry_is s remote Expiry = refl
 
@@ -328,7 +328,7 @@ party_is s remote NoPath = refl
 party_is s remote (Connect x agreed) = refl
 party_is s remote (Setup code number) = refl
 party_is s remote (FromParty cause) = refl
-party_is s remote (FromDomain x cause crankback) = refl
+party_is s remote (FromDomain x cause tried) = refl
 party_is s remote Ready = refl
 party_is s remote Expiry = refl
 

@@ -100,7 +100,7 @@ names_unheld_lem s remote (Connect c agreed) =
     λ i. (is_first (is_incumbent s c) (is_rerouting s c) ∙ its_incumbent s c) i || unheld s c i
 names_unheld_lem s remote (Setup code number) = refl
 names_unheld_lem s remote (FromParty cause) = refl
-names_unheld_lem s remote (FromDomain c cause crankback) = unheld s c
+names_unheld_lem s remote (FromDomain c cause tried) = unheld s c
 names_unheld_lem s remote Ready = refl
 names_unheld_lem s remote Expiry = refl
 
@@ -216,7 +216,7 @@ module _ (w : Wants) (d : Demands) (agrees : Agrees w d) (x : Standing) (e : Eve
   asks (Connect y agreed) = refl
   asks (Setup code number) = none_of (w.rejected (phase_of s) (asking_of code) (is_late number x.remote)) ∙ ap is_none (agrees.rejected x code number)
   asks (FromParty cause) = refl
-  asks (FromDomain y cause crankback) = refl
+  asks (FromDomain y cause tried) = refl
   asks Ready = refl
   asks Expiry = refl
 
@@ -239,7 +239,7 @@ module _ (w : Wants) (d : Demands) (agrees : Agrees w d) (x : Standing) (e : Eve
       (not (agrees.meaningless x (Setup code number) i) && number_stored (agrees.rejected x code number i) (has_room x.last))
       (number ∷ []) []
   stores_is (FromParty cause) b p = ap (λ t. cond t (0 ∷ []) []) p
-  stores_is (FromDomain y cause crankback) b p = ap (λ t. cond t (0 ∷ []) []) p
+  stores_is (FromDomain y cause tried) b p = ap (λ t. cond t (0 ∷ []) []) p
   stores_is Ready b p = ap (λ t. cond t (0 ∷ []) []) p
   stores_is Expiry b p = ap (λ t. cond t (0 ∷ []) []) p
 
@@ -259,7 +259,7 @@ module _ (w : Wants) (d : Demands) (agrees : Agrees w d) (x : Standing) (e : Eve
       cond_rejections (w.meaningless (case_of x (Setup code number))) (w.rejected (phase_of s) (asking_of code) (is_late number x.remote))
       ∙ λ i. cond (agrees.meaningless x (Setup code number) i) [] (rejections (agrees.rejected x code number i))
   rejection_is (FromParty cause) = refl
-  rejection_is (FromDomain y cause crankback) = refl
+  rejection_is (FromDomain y cause tried) = refl
   rejection_is Ready = refl
   rejection_is Expiry = refl
 

@@ -102,7 +102,7 @@ happening_of s remote NoPath = FoundNone
 happening_of s remote (Connect c agreed) = Connected (role_of s c) agreed
 happening_of s remote (Setup code number) = SetUp (asking_of code) (is_late number remote)
 happening_of s remote (FromParty cause) = PartyReleased (class_of cause)
-happening_of s remote (FromDomain c cause crankback) = DomainReleased (role_of s c) (class_of cause) crankback
+happening_of s remote (FromDomain c cause tried) = DomainReleased (role_of s c) (class_of cause) tried
 happening_of s remote Ready = SaidReady
 happening_of s remote Expiry = Expired
 

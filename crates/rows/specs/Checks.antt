@@ -59,7 +59,7 @@ names_not_held s NoPath = false
 names_not_held s (Connect c agreed) = is_its_incumbent s c || not (holds s c)
 names_not_held s (Setup code number) = false
 names_not_held s (FromParty cause) = false
-names_not_held s (FromDomain c cause crankback) = not (holds s c)
+names_not_held s (FromDomain c cause tried) = not (holds s c)
 names_not_held s Ready = false
 names_not_held s Expiry = false
 
@@ -80,7 +80,7 @@ asks_number d x NoPath = false
 asks_number d x (Connect c agreed) = false
 asks_number d x (Setup code number) = is_none (d.rejected x code number)
 asks_number d x (FromParty cause) = false
-asks_number d x (FromDomain c cause crankback) = false
+asks_number d x (FromDomain c cause tried) = false
 asks_number d x Ready = false
 asks_number d x Expiry = false
 
@@ -107,7 +107,7 @@ rejection_wanted d x NoPath = []
 rejection_wanted d x (Connect c agreed) = []
 rejection_wanted d x (Setup code number) = cond (d.meaningless x (Setup code number)) [] (rejections (d.rejected x code number))
 rejection_wanted d x (FromParty cause) = []
-rejection_wanted d x (FromDomain c cause crankback) = []
+rejection_wanted d x (FromDomain c cause tried) = []
 rejection_wanted d x Ready = []
 rejection_wanted d x Expiry = []
 
@@ -130,7 +130,7 @@ stored_wanted d x (Connect c agreed) = []
 stored_wanted d x (Setup code number) =
     cond (not (d.meaningless x (Setup code number)) && number_stored (d.rejected x code number) (has_room x.last)) (number ∷ []) []
 stored_wanted d x (FromParty cause) = []
-stored_wanted d x (FromDomain c cause crankback) = []
+stored_wanted d x (FromDomain c cause tried) = []
 stored_wanted d x Ready = []
 stored_wanted d x Expiry = []
 

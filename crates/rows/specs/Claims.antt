@@ -56,8 +56,8 @@ pub record CaseHandsOn (x : Standing) : Type 0 where
   pub connect : (c : ℕ) (agreed : Bool) → (case_of x (Connect c agreed)).happening ≡ Connected (role_of x.state c) agreed
   pub setup : (code : Switchover) (number : ℕ) → (case_of x (Setup code number)).happening ≡ SetUp (asking_of code) (is_late number x.remote)
   pub from_party : (got : ReceivedCause) → (case_of x (FromParty got)).happening ≡ PartyReleased (class_of got)
-  pub from_domain : (c : ℕ) (got : ReceivedCause) (crankback : Crankback) →
-      (case_of x (FromDomain c got crankback)).happening ≡ DomainReleased (role_of x.state c) (class_of got) crankback
+  pub from_domain : (c : ℕ) (got : ReceivedCause) (tried : Crankback) →
+      (case_of x (FromDomain c got tried)).happening ≡ DomainReleased (role_of x.state c) (class_of got) tried
   pub ready : (case_of x Ready).happening ≡ SaidReady
   pub expiry : (case_of x Expiry).happening ≡ Expired
 

@@ -71,7 +71,7 @@ occasion_of FoundNone = OnNoPath
 occasion_of (Connected role agreed) = OnConnect
 occasion_of (SetUp asked late) = OnSetup
 occasion_of (PartyReleased class) = OnPartyRelease
-occasion_of (DomainReleased role class crankback) = OnDomainRelease
+occasion_of (DomainReleased role class tried) = OnDomainRelease
 occasion_of SaidReady = OnReady
 occasion_of Expired = OnExpiry
 
@@ -83,7 +83,7 @@ every_happening OnConnect f = every_role (λ role. every_bool (λ agreed. f (Con
 every_happening OnSetup f = every_asking (λ asked. every_bool (λ late. f (SetUp asked late)))
 every_happening OnPartyRelease f = every_class (λ class. f (PartyReleased class))
 every_happening OnDomainRelease f =
-    every_role (λ role. every_class (λ class. every_crankback (λ crankback. f (DomainReleased role class crankback))))
+    every_role (λ role. every_class (λ class. every_crankback (λ tried. f (DomainReleased role class tried))))
 every_happening OnReady f = f SaidReady
 every_happening OnExpiry f = f Expired
 

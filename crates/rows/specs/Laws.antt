@@ -110,7 +110,7 @@ is_expired FoundNone = false
 is_expired (Connected role agreed) = false
 is_expired (SetUp asked late) = false
 is_expired (PartyReleased class) = false
-is_expired (DomainReleased role class crankback) = false
+is_expired (DomainReleased role class tried) = false
 is_expired SaidReady = false
 is_expired Expired = true
 
@@ -142,7 +142,7 @@ reported_slots FoundNone = []
 reported_slots (Connected role agreed) = []
 reported_slots (SetUp asked late) = []
 reported_slots (PartyReleased class) = []
-reported_slots (DomainReleased role class crankback) = role_slots role
+reported_slots (DomainReleased role class tried) = role_slots role
 reported_slots SaidReady = []
 reported_slots Expired = []
 
@@ -175,7 +175,7 @@ knows_named FoundNone = true
 knows_named (Connected role agreed) = true
 knows_named (SetUp asked late) = true
 knows_named (PartyReleased class) = true
-knows_named (DomainReleased role class crankback) = not (is_other role)
+knows_named (DomainReleased role class tried) = not (is_other role)
 knows_named SaidReady = true
 knows_named Expired = true
 
@@ -215,7 +215,7 @@ is_partys FoundNone = false
 is_partys (Connected role agreed) = false
 is_partys (SetUp asked late) = false
 is_partys (PartyReleased class) = true
-is_partys (DomainReleased role class crankback) = false
+is_partys (DomainReleased role class tried) = false
 is_partys SaidReady = false
 is_partys Expired = false
 
@@ -255,7 +255,7 @@ may_give FoundNone = false
 may_give (Connected role agreed) = false
 may_give (SetUp asked late) = true
 may_give (PartyReleased class) = false
-may_give (DomainReleased role class crankback) = true
+may_give (DomainReleased role class tried) = true
 may_give SaidReady = false
 may_give Expired = false
 
@@ -304,7 +304,7 @@ names_unheld phase FoundNone = false
 names_unheld phase (Connected role agreed) = same_role role NamesIncumbent || not (holds_role phase role)
 names_unheld phase (SetUp asked late) = false
 names_unheld phase (PartyReleased class) = false
-names_unheld phase (DomainReleased role class crankback) = not (holds_role phase role)
+names_unheld phase (DomainReleased role class tried) = not (holds_role phase role)
 names_unheld phase SaidReady = false
 names_unheld phase Expired = false
 
@@ -316,7 +316,7 @@ asks_for w phase FoundNone = false
 asks_for w phase (Connected role agreed) = false
 asks_for w phase (SetUp asked late) = is_empty (w.rejected phase asked late)
 asks_for w phase (PartyReleased class) = false
-asks_for w phase (DomainReleased role class crankback) = false
+asks_for w phase (DomainReleased role class tried) = false
 asks_for w phase SaidReady = false
 asks_for w phase Expired = false
 
@@ -335,7 +335,7 @@ rejected_in w c FoundNone = []
 rejected_in w c (Connected role agreed) = []
 rejected_in w c (SetUp asked late) = cond (w.meaningless c) [] (w.rejected c.phase asked late)
 rejected_in w c (PartyReleased class) = []
-rejected_in w c (DomainReleased role class crankback) = []
+rejected_in w c (DomainReleased role class tried) = []
 rejected_in w c SaidReady = []
 rejected_in w c Expired = []
 
@@ -347,7 +347,7 @@ stores_in w c FoundNone = false
 stores_in w c (Connected role agreed) = false
 stores_in w c (SetUp asked late) = not (w.meaningless c) && number_stored (causes_of (w.rejected c.phase asked late)) c.room
 stores_in w c (PartyReleased class) = false
-stores_in w c (DomainReleased role class crankback) = false
+stores_in w c (DomainReleased role class tried) = false
 stores_in w c SaidReady = false
 stores_in w c Expired = false
 

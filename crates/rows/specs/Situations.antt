@@ -65,7 +65,7 @@ abbrev pub came_neither : Class → Bool
 came_neither class = came_not1 class && not (came4 class)
 
 abbrev pub cranked_any : Crankback → Bool
-cranked_any crankback = true
+cranked_any tried = true
 
 -- no Crankback element; one, and an alternate path is found; one, and none is
 abbrev pub cranked_none : Crankback → Bool
@@ -91,7 +91,7 @@ happening_number FoundNone = 3
 happening_number (Connected role agreed) = 4
 happening_number (SetUp asked late) = 5
 happening_number (PartyReleased class) = 6
-happening_number (DomainReleased role class crankback) = 7
+happening_number (DomainReleased role class tried) = 7
 happening_number SaidReady = 8
 happening_number Expired = 9
 
@@ -106,7 +106,7 @@ is_party_release test FoundNone = false
 is_party_release test (Connected role agreed) = false
 is_party_release test (SetUp asked late) = false
 is_party_release test (PartyReleased class) = test class
-is_party_release test (DomainReleased role class crankback) = false
+is_party_release test (DomainReleased role class tried) = false
 is_party_release test SaidReady = false
 is_party_release test Expired = false
 
@@ -117,7 +117,7 @@ is_domain_release named test cranked FoundNone = false
 is_domain_release named test cranked (Connected role agreed) = false
 is_domain_release named test cranked (SetUp asked late) = false
 is_domain_release named test cranked (PartyReleased class) = false
-is_domain_release named test cranked (DomainReleased role class crankback) = same_role role named && (test class && cranked crankback)
+is_domain_release named test cranked (DomainReleased role class tried) = same_role role named && (test class && cranked tried)
 is_domain_release named test cranked SaidReady = false
 is_domain_release named test cranked Expired = false
 
@@ -128,7 +128,7 @@ is_connect policy FoundNone = false
 is_connect policy (Connected role agreed) = same_role role NamesRerouting && policy agreed
 is_connect policy (SetUp asked late) = false
 is_connect policy (PartyReleased class) = false
-is_connect policy (DomainReleased role class crankback) = false
+is_connect policy (DomainReleased role class tried) = false
 is_connect policy SaidReady = false
 is_connect policy Expired = false
 
@@ -139,7 +139,7 @@ is_setup test FoundNone = false
 is_setup test (Connected role agreed) = false
 is_setup test (SetUp asked late) = test asked late
 is_setup test (PartyReleased class) = false
-is_setup test (DomainReleased role class crankback) = false
+is_setup test (DomainReleased role class tried) = false
 is_setup test SaidReady = false
 is_setup test Expired = false
 
@@ -296,7 +296,7 @@ is_for_unheld phase FoundNone = false
 is_for_unheld phase (Connected role agreed) = same_role role NamesIncumbent || not (holds_role phase role)
 is_for_unheld phase (SetUp asked late) = false
 is_for_unheld phase (PartyReleased class) = false
-is_for_unheld phase (DomainReleased role class crankback) = not (holds_role phase role)
+is_for_unheld phase (DomainReleased role class tried) = not (holds_role phase role)
 is_for_unheld phase SaidReady = false
 is_for_unheld phase Expired = false
 
@@ -308,7 +308,7 @@ takes_number acceptable phase FoundNone = false
 takes_number acceptable phase (Connected role agreed) = false
 takes_number acceptable phase (SetUp asked late) = acceptable phase asked late
 takes_number acceptable phase (PartyReleased class) = false
-takes_number acceptable phase (DomainReleased role class crankback) = false
+takes_number acceptable phase (DomainReleased role class tried) = false
 takes_number acceptable phase SaidReady = false
 takes_number acceptable phase Expired = false
 

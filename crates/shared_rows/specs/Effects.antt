@@ -32,7 +32,7 @@ soft_connect_effect node c agreed i r =
     carried_at node (SoftProceeding i r) Spent NoCause (of_rerouting (role_of (SoftProceeding i r) c) AtSoftProceeding (soft_connected agreed))
 
 abbrev pub soft_crankback_effect : Node → ReceivedCause → Crankback → Fresh → ℕ → ℕ → Effect
-soft_crankback_effect node cause crankback next i r = carried_at node (SoftProceeding i r) next cause (soft_crankback crankback (is_next next))
+soft_crankback_effect node cause tried next i r = carried_at node (SoftProceeding i r) next cause (soft_crankback tried (is_next next))
 
 abbrev pub idle_lost_effect : Node → Bool → ReceivedCause → ℕ → Fresh → Effect
 idle_lost_effect node hard cause i next = carried_at node (Idle i) next cause (idle_lost hard (class_of cause))

@@ -17,8 +17,8 @@ use Rattle.rows.specs.declared.State.TheVariants.{Awaiting, Idle, SoftInitiated}
 use Rattle.source_rows.specs.Rows.{at_source, called_row}
 
 abbrev pub called_effect : Bool → ℕ → ReceivedCause → Crankback → Fresh → State → Effect
-called_effect hard c cause crankback next s =
-    at_source s next cause (called_row (phase_of s) hard (is_next next) (role_of s c) (class_of cause) crankback)
+called_effect hard c cause tried next s =
+    at_source s next cause (called_row (phase_of s) hard (is_next next) (role_of s c) (class_of cause) tried)
 
 -- the same in the states where crankback is not read
 abbrev pub idle_called : Bool → ℕ → ReceivedCause → Fresh → ℕ → Effect

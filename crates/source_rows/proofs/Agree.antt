@@ -31,7 +31,7 @@ meaningless_is soft s remote NoPath = ap (λ (n : ℕ). not (eqb n 2 || eqb n 4)
 meaningless_is soft s remote (Connect c agreed) = ap (λ (n : ℕ). not (eqb n 3 || eqb n 5)) (number_is s)
 meaningless_is soft s remote (Setup code number) = ap (λ n. eqb n 0 || not (has_symmetric soft)) (number_is s)
 meaningless_is soft s remote (FromParty cause) = ap (λ (n : ℕ). eqb n 0) (number_is s)
-meaningless_is soft s remote (FromDomain c cause crankback) = ap (λ (n : ℕ). eqb n 0) (number_is s)
+meaningless_is soft s remote (FromDomain c cause tried) = ap (λ (n : ℕ). eqb n 0) (number_is s)
 meaningless_is soft s remote Ready = ap (λ (n : ℕ). not (eqb n 6)) (number_is s)
 meaningless_is soft s remote Expiry = ap not (hard_is s)
 
@@ -58,7 +58,7 @@ turned_is hard s remote NoPath = refl
 turned_is hard s remote (Connect c agreed) = λ i. eqb (number_is s i) 5 && (not (names_unheld_lem s remote (Connect c agreed) i) && not agreed)
 turned_is hard s remote (Setup code number) = refl
 turned_is hard s remote (FromParty cause) = refl
-turned_is hard s remote (FromDomain c cause crankback) =
+turned_is hard s remote (FromDomain c cause tried) =
     λ i.
     eqb (number_is s i) 6
     && ((is_first (is_incumbent s c) (is_rerouting s c) ∙ its_incumbent s c) i && (hard && missing_is cause i))

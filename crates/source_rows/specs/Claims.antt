@@ -19,6 +19,6 @@ is_printed phase FoundNone = in_columns (2 ∷ 4 ∷ []) phase
 is_printed phase (Connected role agreed) = same_role role NamesRerouting && in_columns (3 ∷ 5 ∷ []) phase
 is_printed phase (SetUp asked late) = in_columns (1 ∷ 2 ∷ 3 ∷ 4 ∷ 5 ∷ 6 ∷ 7 ∷ []) phase
 is_printed phase (PartyReleased class) = in_columns (1 ∷ 2 ∷ 3 ∷ 4 ∷ 5 ∷ 6 ∷ 7 ∷ []) phase
-is_printed phase (DomainReleased role class crankback) = release_printed role phase
+is_printed phase (DomainReleased role class tried) = release_printed role phase
 is_printed phase SaidReady = in_columns (6 ∷ []) phase
 is_printed phase Expired = in_columns (2 ∷ 3 ∷ []) phase

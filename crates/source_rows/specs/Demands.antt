@@ -41,7 +41,7 @@ meaningless soft s NoPath = not (is_triggered s)
 meaningless soft s (Connect c agreed) = not (is_proceeding s)
 meaningless soft s (Setup code number) = is_null s || not (has_symmetric soft)
 meaningless soft s (FromParty cause) = is_null s
-meaningless soft s (FromDomain c cause crankback) = is_null s
+meaningless soft s (FromDomain c cause tried) = is_null s
 meaningless soft s Ready = not (is_initiated s)
 meaningless soft s Expiry = not (is_hard s)
 
@@ -63,7 +63,7 @@ turns_away hard s NoPath = false
 turns_away hard s (Connect c agreed) = is_soft_proceeding s && (not (names_not_held s (Connect c agreed)) && not agreed)
 turns_away hard s (Setup code number) = false
 turns_away hard s (FromParty cause) = false
-turns_away hard s (FromDomain c cause crankback) = is_initiated s && (is_its_incumbent s c && (hard && has_no_cause cause))
+turns_away hard s (FromDomain c cause tried) = is_initiated s && (is_its_incumbent s c && (hard && has_no_cause cause))
 turns_away hard s Ready = false
 turns_away hard s Expiry = false
 
@@ -93,7 +93,7 @@ meaningless_in phase soft FoundNone = not (waits_for_path phase)
 meaningless_in phase soft (Connected role agreed) = not (waits_for_connect phase)
 meaningless_in phase soft (SetUp asked late) = is_in 0 phase || not (has_symmetric soft)
 meaningless_in phase soft (PartyReleased class) = is_in 0 phase
-meaningless_in phase soft (DomainReleased role class crankback) = is_in 0 phase
+meaningless_in phase soft (DomainReleased role class tried) = is_in 0 phase
 meaningless_in phase soft SaidReady = not (is_in 6 phase)
 meaningless_in phase soft Expired = not (is_hard_phase phase)
 
@@ -109,7 +109,7 @@ turns_away_in phase hard FoundNone = false
 turns_away_in phase hard (Connected role agreed) = is_in 5 phase && (not (names_unheld phase (Connected role agreed)) && not agreed)
 turns_away_in phase hard (SetUp asked late) = false
 turns_away_in phase hard (PartyReleased class) = false
-turns_away_in phase hard (DomainReleased role class crankback) = is_in 6 phase && (same_role role NamesIncumbent && (hard && came_none class))
+turns_away_in phase hard (DomainReleased role class tried) = is_in 6 phase && (same_role role NamesIncumbent && (hard && came_none class))
 turns_away_in phase hard SaidReady = false
 turns_away_in phase hard Expired = false
 

@@ -45,7 +45,7 @@ is_without_meaning phase soft FoundNone = not (triggered_phase phase)
 is_without_meaning phase soft (Connected role agreed) = not (proceeding_phase phase)
 is_without_meaning phase soft (SetUp asked late) = not (has_symmetric soft)
 is_without_meaning phase soft (PartyReleased class) = false
-is_without_meaning phase soft (DomainReleased role class crankback) = false
+is_without_meaning phase soft (DomainReleased role class tried) = false
 is_without_meaning phase soft SaidReady = not (same_phase phase AtSoftInitiated)
 is_without_meaning phase soft Expired = not (is_hard_phase phase)
 
@@ -486,7 +486,7 @@ items_on phase FoundNone = lost_paths
 items_on phase (Connected role agreed) = connects
 items_on phase (SetUp asked late) = setups phase
 items_on phase (PartyReleased class) = calling_releases phase
-items_on phase (DomainReleased role class crankback) = called_releases phase role
+items_on phase (DomainReleased role class tried) = called_releases phase role
 items_on phase SaidReady = readies
 items_on phase Expired = expiries
 
@@ -592,7 +592,7 @@ departed_on phase FoundNone = departed_lost_paths
 departed_on phase (Connected role agreed) = []
 departed_on phase (SetUp asked late) = departed_setups phase
 departed_on phase (PartyReleased class) = departed_calling
-departed_on phase (DomainReleased role class crankback) = departed_called phase
+departed_on phase (DomainReleased role class tried) = departed_called phase
 departed_on phase SaidReady = []
 departed_on phase Expired = []
 

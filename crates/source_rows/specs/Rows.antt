@@ -156,10 +156,10 @@ hard_crankback NoAlternate room = hard_given_up
 
 -- Hard Proceeding: a cause comes before crankback (6.2.4.4 case 3; decision 4): #1 as received, another #2 (decision 5)
 abbrev pub hard_lost : Class → Crankback → Bool → Rule
-hard_lost CameNone crankback room = hard_crankback crankback room
-hard_lost CameOutside crankback room = stopping (telling SaysAsCame ends)
-hard_lost CameComplete crankback room = stopping (telling Says2 ends)
-hard_lost CameOther crankback room = stopping (telling Says2 ends)
+hard_lost CameNone tried room = hard_crankback tried room
+hard_lost CameOutside tried room = stopping (telling SaysAsCame ends)
+hard_lost CameComplete tried room = stopping (telling Says2 ends)
+hard_lost CameOther tried room = stopping (telling Says2 ends)
 
 -- Soft Triggered: as 6.2.4.1, whatever came, hard on or off; crankback is not read (6.2.4.5; decision 1)
 abbrev pub soft_triggered_lost : Rule
@@ -207,14 +207,14 @@ awaiting_dropped CameOther = telling Says2 (retiring plainly ends)
 
 -- a connection that is not held: 107; Hard Triggered holds none (decision 10)
 abbrev pub called_row : Phase → Bool → Bool → Role → Class → Crankback → Rule
-called_row Null hard room role class crankback = refuses NoMeaning Null
-called_row Idle hard room role class crankback = of_incumbent role Idle (idle_lost hard class)
-called_row HardTriggered hard room role class crankback = refuses NotHeld HardTriggered
-called_row HardProceeding hard room role class crankback = of_rerouting role HardProceeding (hard_lost class crankback room)
-called_row SoftTriggered hard room role class crankback = of_incumbent role SoftTriggered soft_triggered_lost
-called_row SoftProceeding hard room role class crankback = of_either role SoftProceeding (soft_lost hard class) (soft_crankback crankback room)
-called_row SoftInitiated hard room role class crankback = of_either role SoftInitiated (initiated_lost hard class) back_to_idle
-called_row Awaiting hard room role class crankback = of_either role Awaiting (awaiting_lost class) (awaiting_dropped class)
+called_row Null hard room role class tried = refuses NoMeaning Null
+called_row Idle hard room role class tried = of_incumbent role Idle (idle_lost hard class)
+called_row HardTriggered hard room role class tried = refuses NotHeld HardTriggered
+called_row HardProceeding hard room role class tried = of_rerouting role HardProceeding (hard_lost class tried room)
+called_row SoftTriggered hard room role class tried = of_incumbent role SoftTriggered soft_triggered_lost
+called_row SoftProceeding hard room role class tried = of_either role SoftProceeding (soft_lost hard class) (soft_crankback tried room)
+called_row SoftInitiated hard room role class tried = of_either role SoftInitiated (initiated_lost hard class) back_to_idle
+called_row Awaiting hard room role class tried = of_either role Awaiting (awaiting_lost class) (awaiting_dropped class)
 
 -- ---- the table: the row of a case
 abbrev pub row_in : Phase → Bool → Soft → Bool → Happening → Rule
@@ -224,7 +224,7 @@ row_in phase hard soft room FoundNone = no_path_row phase
 row_in phase hard soft room (Connected role agreed) = connect_row phase role agreed
 row_in phase hard soft room (SetUp asked late) = setup_row phase soft room asked late
 row_in phase hard soft room (PartyReleased class) = calling_row phase hard class
-row_in phase hard soft room (DomainReleased role class crankback) = called_row phase hard room role class crankback
+row_in phase hard soft room (DomainReleased role class tried) = called_row phase hard room role class tried
 row_in phase hard soft room SaidReady = ready_row phase
 row_in phase hard soft room Expired = expiry_row phase
 

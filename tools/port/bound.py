@@ -1,0 +1,45 @@
+#!/usr/bin/env python3
+"""Gives a bound variable of specs/ and proofs/ another name: today's check refuses one that is spelled like a constructor.
+
+usage: bound.py    at the top of the repository, after after.py
+
+`crankback`, bound in patterns beside the constructor `NoCrankback`, becomes `tried`. Comments, strings, fields and src/ stay.
+"""
+import os
+import re
+
+
+def respelled(line):
+    code, mark, words = line.partition("--")
+    if mark and code and not code[-1].isspace():
+        code, mark, words = line, "", ""
+    pieces = re.split(r'("(?:[^"\\]|\\.)*")', code)
+    pieces = [it if it.startswith('"') else re.sub(r"(?<![\w.'-])crankback(?![\w'-])", "tried", it) for it in pieces]
+    return "".join(pieces) + mark + words
+
+
+def main():
+    for folder, dirs, files in os.walk("crates"):
+        dirs[:] = [it for it in dirs if it != "out"]
+        for name in files:
+            path = os.path.join(folder, name)
+            if not name.endswith((".antt", ".edit")):
+                continue
+            with open(path, encoding="utf-8") as file:
+                old = file.read()
+            if name.endswith(".edit"):
+                part = ""
+                lines = []
+                for line in old.split("\n"):
+                    part = line[6:] if line.startswith("file: ") else part
+                    turns = line.startswith(("old: ", "new: ")) and part.endswith(".antt")
+                    lines.append(respelled(line) if turns else line)
+                new = "\n".join(lines)
+            else:
+                new = "\n".join(respelled(it) for it in old.split("\n"))
+            if new != old:
+                with open(path, "w", encoding="utf-8") as file:
+                    file.write(new)
+
+
+main()
