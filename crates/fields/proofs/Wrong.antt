@@ -11,7 +11,6 @@ use base.Logic.{SProp, ent}
 use contract.Lifetimes.{Lfts}
 use contract.Monad.{Fun, fact, fact_mono}
 use denote.MutBor.{MutBor}
-use denote.Ref.{Bor}
 use types.Logic.{Logic}
 use prog.Memory.{Memory}
 use prog.Routine.{Routine}
@@ -19,11 +18,7 @@ use Rattle.lines.specs.Lines.{Page, put_byte, put_text, spelled, number_text}
 use Rattle.fields.specs.contracts.put_field as put_field
 use Rattle.fields.specs.contracts.put_count as put_count
 
--- something that is lent; where it stands says nothing here
-abbrev lent : {X : Type 0} → X → Bor X
-lent xs = record { ref_ptr = (0, 0); now = xs }
-
--- something that is lent to be changed
+-- something that is lent to be changed; where it stands says nothing here
 abbrev lent_mut : {X : Type 0} → X → MutBor X
 lent_mut xs = record { ref_ptr = (0, 0); ghost_name = 0; now = xs }
 

@@ -1,13 +1,13 @@
 -- The laws of words: what passes a test at the front, and places in a line. Assumes nothing.
-use Prim.Native.Nat.{ℕ, suc, ◌+◌, ◌-◌, ◌≤◌, ◌<◌}
+use Prim.Native.Nat.{ℕ, suc, ◌+◌, ◌-◌, ◌≤◌}
 use native.Mathlib.Omega.{arith}
 use mathlib.Core.Path.{◌≡◌, refl, sym, ◌∙◌, ap}
 use mathlib.Core.Bool.{Bool, true, false, cond}
 use mathlib.Core.List.{List, [], ◌∷◌, ◌++◌}
 use lib.Dec.{leb, eqb}
-use lib.ListN.{length, get_or, take, drop, length-append, length-drop, drop_of_length-le}
-use lib.Seq.{drop-cons, drop-drop, drop-append_seam, take_at}
-use borrow.Author.Tests.{leb-true, leb-false, eq-eqb, ne_eqb}
+use lib.ListN.{length, take, drop, length-append, length-drop, drop_of_length-le}
+use lib.Seq.{drop-drop, drop-append_seam, take_at}
+use borrow.Author.Tests.{leb-true, leb-false}
 use Rattle.line_reader.specs.Words.{is_blank, is_of_word, front, past, first_word, after_word, place_before, place_after, same_text}
 
 -- the place of an end of a line
@@ -43,27 +43,6 @@ module _ (test : ℕ → Bool) where
 
   pub no_longer : (l : List ℕ) → length (front test l) + length (past test l) ≡ length l
   no_longer l = sym (length-append (front test l) (past test l)) ∙ ap length (both l)
-
-  -- one octet more that passes
-  pub passed : (l : List ℕ) (i at : ℕ) → i < length l → test (get_or l i 0) ≡ true → past test (drop i l) ≡ past test (drop at l) →
-      past test (drop (i + 1) l) ≡ past test (drop at l)
-  passed l i at h t e =
-      let one : i + 1 ≡ suc i = omega arith in
-      let here : past test (drop i l) ≡ past test (drop (suc i) l) = rw (drop-cons l i 0 h, t) in
-      ap (λ n. past test (drop n l)) one ∙ (sym here ∙ e)
-
-  -- the first that does not, and the end of the line
-  pub stopped : (l : List ℕ) (i at : ℕ) → i < length l → test (get_or l i 0) ≡ false → past test (drop i l) ≡ past test (drop at l) →
-      i ≡ place_before l (past test (drop at l))
-  stopped l i at h t e =
-      let here : past test (drop i l) ≡ drop i l = rw (drop-cons l i 0 h, t) in
-      omega (arith, ap length (sym here ∙ e), length-drop i l)
-
-  pub ran_out : (l : List ℕ) (i at : ℕ) → length l ≤ i → past test (drop i l) ≡ past test (drop at l) →
-      length l ≡ place_before l (past test (drop at l))
-  ran_out l i at h e =
-      let here : past test (drop i l) ≡ [] = ap (past test) (drop_of_length-le l h) in
-      omega (arith, ap length (sym here ∙ e))
 
 -- a word between its two places
 module _ (l : List ℕ) (at from to : ℕ) (f : from ≡ place_before l (past is_blank (drop at l)))
@@ -105,23 +84,3 @@ other_length (x ∷ a) (y ∷ b) h = by_test (eqb x y) (other_length a b (λ e. 
     by_test : (t : Bool) → same_text a b ≡ false → cond t (same_text a b) false ≡ false
     by_test true rest = rest
     by_test false rest = refl
-
--- and of one length, octet by octet
-module _ (a b : List ℕ) (i : ℕ) (h : i < length a) (same : length a ≡ length b) where
-  one_by_one : same_text (drop i a) (drop i b) ≡ cond (eqb (get_or a i 0) (get_or b i 0)) (same_text (drop (suc i) a) (drop (suc i) b)) false
-  one_by_one = let k : i < length b = omega arith in rw (drop-cons a i 0 h, drop-cons b i 0 k)
-
-  pub agrees : get_or a i 0 ≡ get_or b i 0 → same_text (drop i a) (drop i b) ≡ same_text a b →
-      same_text (drop (i + 1) a) (drop (i + 1) b) ≡ same_text a b
-  agrees e s =
-      let one : i + 1 ≡ suc i = omega arith in
-      ap (λ n. same_text (drop n a) (drop n b)) one ∙ (sym (one_by_one ∙ rw (eq-eqb (get_or a i 0) (get_or b i 0) e)) ∙ s)
-
-  pub differs : (get_or a i 0 ≡ get_or b i 0 → ⊥) → same_text (drop i a) (drop i b) ≡ same_text a b → false ≡ same_text a b
-  differs n s = sym (one_by_one ∙ rw (ne_eqb (get_or a i 0) (get_or b i 0) n)) ∙ s
-
-pub agreed : (a b : List ℕ) (i : ℕ) → length a ≤ i → length a ≡ length b → same_text (drop i a) (drop i b) ≡ same_text a b →
-    true ≡ same_text a b
-agreed a b i h same s =
-    let k : length b ≤ i = omega arith in
-    sym (rw (drop_of_length-le a h, drop_of_length-le b k)) ∙ s

@@ -5,9 +5,9 @@ use mathlib.Core.Path.{◌≡◌, refl, sym, ◌∙◌, ap}
 use mathlib.Core.Bool.{Bool, true, false, cond, false≢true}
 use mathlib.Core.List.{List, [], ◌∷◌}
 use lib.Dec.{ltb, leb}
-use lib.ListN.{length, get_or, drop, drop_of_length-le}
+use lib.ListN.{length, get_or, drop}
 use lib.Seq.{drop-cons}
-use borrow.Author.Tests.{le-leb, lt-leb, ltb-false, leb-true}
+use borrow.Author.Tests.{lt-leb, ltb-false, leb-true}
 use Rattle.line_reader.specs.declared.Reading.{Reading}
 use Rattle.line_reader.specs.declared.Reading.TheVariants.{Counts, NoNumber}
 use Rattle.line_reader.specs.Numbers.{is_digit, all_digits, is_decimal, value_from, number_up_to}
@@ -49,9 +49,6 @@ module _ (limit : ℕ) (word : List ℕ) (n i : ℕ) (h : i < length word) (e : 
   here : number_from limit n (get_or word i 0 ∷ drop (suc i) word) ≡ number_up_to limit word
   here = ap (number_from limit n) (sym (drop-cons word i 0 h)) ∙ e
 
-  pub no_digit : is_digit (get_or word i 0) ≡ false → NoNumber ≡ number_up_to limit word
-  no_digit d = sym (rw d) ∙ here
-
   pub one_digit : is_digit (get_or word i 0) ≡ true →
       number_from limit (n * 10 + get_or word i 0 - 48) (drop (i + 1) word) ≡ number_up_to limit word
   one_digit d =
@@ -62,18 +59,6 @@ module _ (limit : ℕ) (word : List ℕ) (n i : ℕ) (h : i < length word) (e : 
 
   pub above : is_digit (get_or word i 0) ≡ true → limit < n * 10 + get_or word i 0 - 48 → NoNumber ≡ number_up_to limit word
   above d more = sym (too_high limit (n * 10 + get_or word i 0 - 48) (drop (i + 1) word) more) ∙ one_digit d
-
-pub counted : (limit : ℕ) (word : List ℕ) (n i : ℕ) → length word ≤ i → n ≤ limit →
-    number_from limit n (drop i word) ≡ number_up_to limit word → Counts n ≡ number_up_to limit word
-counted limit word n i h l e = sym (rw (drop_of_length-le word h, le-leb n limit l)) ∙ e
-
--- what is a digit is one
-pub digit_low : (b : ℕ) → is_digit b ≡ true → 48 ≤ b
-digit_low b d = by_test (ltb b 48) refl d
-  where
-    by_test : (t : Bool) → ltb b 48 ≡ t → cond t false (leb b 57) ≡ true → 48 ≤ b
-    by_test true l d = absurd (false≢true d)
-    by_test false l d = ltb-false b 48 l
 
 -- a number that is read is at most the limit
 pub at_most : (limit : ℕ) (word : List ℕ) (n : ℕ) → number_up_to limit word ≡ Counts n → n ≤ limit

@@ -11,7 +11,6 @@ use base.Logic.{SProp, ent}
 use contract.Lifetimes.{Lfts}
 use contract.Monad.{Fun, fact, fact_mono}
 use denote.MutBor.{MutBor}
-use denote.Ref.{Bor}
 use types.Logic.{Logic}
 use prog.Memory.{Memory}
 use prog.Routine.{Routine}
@@ -20,11 +19,7 @@ use Rattle.script_words.specs.declared.What.TheVariants.{AKey, HardOrEnd}
 use Rattle.script_words.specs.declared.What.{What}
 use Rattle.script_words.specs.contracts.put_what as put_what
 
--- something that is lent; where it stands says nothing here
-abbrev lent : {X : Type 0} → X → Bor X
-lent xs = record { ref_ptr = (0, 0); now = xs }
-
--- something that is lent to be changed
+-- something that is lent to be changed; where it stands says nothing here
 abbrev lent_mut : {X : Type 0} → X → MutBor X
 lent_mut xs = record { ref_ptr = (0, 0); ghost_name = 0; now = xs }
 
