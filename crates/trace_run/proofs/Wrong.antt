@@ -11,6 +11,7 @@ use seplogic.Ra.Ura.{Ura}
 use base.Logic.{SProp, ent}
 use contract.Lifetimes.{Lfts}
 use contract.Monad.{Fun, fact, fact_mono}
+use denote.MutBor.{MutBor}
 use denote.Ref.{Bor}
 use types.Logic.{Logic}
 use prog.Memory.{Memory}
@@ -35,6 +36,10 @@ use Rattle.trace_run.specs.contracts.run as the-run
 abbrev lent : {X : Type 0} → X → Bor X
 lent xs = record { ref_ptr = (0, 0); now = xs }
 
+-- something that is lent to be changed
+abbrev lent_mut : {X : Type 0} → X → MutBor X
+lent_mut xs = record { ref_ptr = (0, 0); ghost_name = 0; now = xs }
+
 -- a record that is a kind, a key below 256, and no more
 abbrev plain : ℕ → ℕ → List ℕ
 plain kind key = kind ∷ 0 ∷ 0 ∷ 0 ∷ 0 ∷ 0 ∷ 0 ∷ key ∷ 0 ∷ 0 ∷ 0 ∷ 0 ∷ 0 ∷ 0 ∷ 0 ∷ 0 ∷ []
@@ -51,8 +56,8 @@ module _ {M : Type 1} {𝓤 : Ura M} (𝓛 : Logic 𝓤) (memory : Memory → SP
   -- run: of an end, a table, octets, a buffer, the columns and a count, how far the run has come, and what is left in the buffer
   abbrev run_at_shuts_out : Node → List Call → List ℕ → List ℕ → Columns → ℕ → Stop → List ℕ → Type 1
   run_at_shuts_out node table input out columns start r left =
-      (κs : Lfts 2) → NeverHolds ((the-run.clauses 𝓛 memory run κs (node, (table, (lent input, (lent out, (columns, (start, tt))))))
-      ).ensures tt r (node, (table, (lent input, (lent left, (columns, (start, tt)))))))
+      (κs : Lfts 2) → NeverHolds ((the-run.clauses 𝓛 memory run κs (node, (table, (lent input, (lent_mut out, (columns, (start, tt))))))
+      ).ensures tt r (node, (table, (lent input, (lent_mut left, (columns, (start, tt)))))))
 
   abbrev run_shuts_out : List Call → List ℕ → List ℕ → Columns → ℕ → Stop → List ℕ → Type 1
   run_shuts_out table input out columns start r left = run_at_shuts_out Source table input out columns start r left
