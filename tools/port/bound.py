@@ -1,12 +1,33 @@
 #!/usr/bin/env python3
-"""Gives a bound variable of specs/ and proofs/ another name: today's check refuses one that is spelled like a constructor.
+"""Gives what is bound within a file of specs/ and proofs/ another name.
 
 usage: bound.py    at the top of the repository, after after.py
 
-`crankback`, bound in patterns beside the constructor `NoCrankback`, becomes `tried`. Comments, strings, fields and src/ stay.
+`crankback`, bound in patterns beside the constructor `NoCrankback`, becomes `tried`: today's check refuses a variable that is spelled
+like a constructor. Names that an import gives with `as` are in snake case. Comments, strings, fields and src/ stay.
 """
 import os
 import re
+
+BOUND = {
+    "crankback": "tried",
+    "notHeld": "not_held",
+    "calledIn": "called_in",
+    "callingIn": "calling_in",
+    "calledGets": "called_gets",
+    "callingGets": "calling_gets",
+    "calledAndReroutingGet": "called_and_rerouting_get",
+    "callingAndReroutingGet": "calling_and_rerouting_get",
+    "any-run": "any_run",
+    "any-control": "any_control",
+    "the-run": "the_run",
+    "standing-of": "standing_of",
+    "serve-tables": "serve_tables",
+    "serve-script": "serve_script",
+    "serve-list": "serve_list",
+    "serve-cells": "serve_cells",
+}
+WORD = re.compile(r"(?<![\w.'-])(?:" + "|".join(BOUND) + r")(?![\w'-])")
 
 
 def respelled(line):
@@ -14,7 +35,7 @@ def respelled(line):
     if mark and code and not code[-1].isspace():
         code, mark, words = line, "", ""
     pieces = re.split(r'("(?:[^"\\]|\\.)*")', code)
-    pieces = [it if it.startswith('"') else re.sub(r"(?<![\w.'-])crankback(?![\w'-])", "tried", it) for it in pieces]
+    pieces = [it if it.startswith('"') else WORD.sub(lambda found: BOUND[found[0]], it) for it in pieces]
     return "".join(pieces) + mark + words
 
 

@@ -192,7 +192,8 @@ NothingBehindIsRead = (xs ys zs : List Call) (c : Call) → places_in (xs ++ (c 
 -- For key 0 no record has a say in the search, and none is fetched.
 abbrev pub NothingIsReadForKeyZero : Type 0
 NothingIsReadForKeyZero =
-    (ys : List Call) (act : Act) → (places_in ys 0 ≡ places_at_start 0) × (fetched_from ys (needed_by (length ys) (places_in ys 0) act) ≡ Nothing)
+    (ys : List Call) (act : Act) → (places_in ys 0 ≡ places_at_start 0)
+    × (fetched_from ys (needed_by (length ys) (places_in ys 0) act) ≡ Nothing)
 
 -- Of a record nothing but its key has a say in the search.
 abbrev pub KeysAloneAreRead : Type 0

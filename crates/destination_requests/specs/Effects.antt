@@ -9,7 +9,8 @@ use Rattle.rows.specs.Effects.{is_next}
 use Rattle.rows.specs.States.{phase_of}
 use Rattle.rows.specs.declared.Effect.{Effect}
 use Rattle.rows.specs.declared.State.{State}
-use Rattle.destination_rows.specs.Rows.{at_destination, connect_at_destination, no_path_at_destination, path_at_destination, trigger_at_destination}
+use Rattle.destination_rows.specs.Rows.{at_destination, connect_at_destination, no_path_at_destination}
+use Rattle.destination_rows.specs.Rows.{path_at_destination, trigger_at_destination}
 
 abbrev pub destination_trigger : Soft → State → Effect
 destination_trigger soft s = at_destination s Spent NoCause (trigger_at_destination (phase_of s) soft)

@@ -19,10 +19,12 @@ use Rattle.rows.specs.Laws.{same_phase}
 use Rattle.rows.specs.Papers.{Item, Papers}
 use Rattle.rows.specs.Rules.{NoClosing, Says1, Says2, Says4, Says5, Says8, SaysAsCame, Untold, plainly, turned_away, with}
 use Rattle.rows.specs.Situations.{about, asks_immediate, asks_unrecognized, at_last_number, came1, came4, came_any, came_neither, came_not1}
-use Rattle.rows.specs.Situations.{came_not4, came_some, cell, checked_by, closes_by, connect_in, connections_get, connect_is_sent, cranked_found}
-use Rattle.rows.specs.Situations.{cranked_in, cranked_lost, cranked_none, domain_release_in as callingIn, for_named, goes_to, happens_in, hard_off}
-use Rattle.rows.specs.Situations.{hard_on, in_both, incumbent_gets, is_soft_setup, party_and_rerouting_get as calledAndReroutingGet}
-use Rattle.rows.specs.Situations.{party_gets as calledGets, party_release_in as calledIn, policy_any, policy_yes, rejected_with}
+use Rattle.rows.specs.Situations.{came_not4, came_some, cell, checked_by, closes_by}
+use Rattle.rows.specs.Situations.{connect_in, connections_get, connect_is_sent, cranked_found}
+use Rattle.rows.specs.Situations.{cranked_in, cranked_lost, cranked_none, domain_release_in as calling_in, for_named}
+use Rattle.rows.specs.Situations.{goes_to, happens_in, hard_off}
+use Rattle.rows.specs.Situations.{hard_on, in_both, incumbent_gets, is_soft_setup, party_and_rerouting_get as called_and_rerouting_get}
+use Rattle.rows.specs.Situations.{party_gets as called_gets, party_release_in as called_in, policy_any, policy_yes, rejected_with}
 use Rattle.rows.specs.Situations.{rerouting_gets, setup_came_in, setup_is_sent, is_stored_by, switches_by, with_room}
 use Rattle.rows.specs.States.{AtAwaiting, AtHardUnderway as AtHardInitiated, AtHardWaiting as AtHardIndicated, AtIdle, AtNull}
 use Rattle.rows.specs.States.{AtSoftInitiated, AtSoftProceeding, AtSoftTriggered, Phase, is_hard_phase, phase_number}
@@ -251,56 +253,56 @@ readies_at_destination =
 abbrev pub expiries_at_destination : List Item
 expiries_at_destination =
     -- D35-1
-    goes_to AtNull (calledGets (with Says2) (about (happens_in Expired AtHardIndicated)))
+    goes_to AtNull (called_gets (with Says2) (about (happens_in Expired AtHardIndicated)))
     -- C-3, Timer (Dnp 23)
-    ∷ calledGets (with Says2) (cell AtNull (happens_in Expired AtHardIndicated))
+    ∷ called_gets (with Says2) (cell AtNull (happens_in Expired AtHardIndicated))
     -- D35-2
-    ∷ goes_to AtNull (calledAndReroutingGet (with Says2) (about (happens_in Expired AtHardInitiated)))
+    ∷ goes_to AtNull (called_and_rerouting_get (with Says2) (about (happens_in Expired AtHardInitiated)))
     -- C-3, Timer (Dnp 24, whose second "rerouting connection" is the called side: 6.3.5.10)
-    ∷ calledAndReroutingGet (with Says2) (cell AtNull (happens_in Expired AtHardInitiated))
+    ∷ called_and_rerouting_get (with Says2) (cell AtNull (happens_in Expired AtHardInitiated))
     ∷ []
 
 -- RELEASE FROM THE CALLED SIDE. Where two connections are held, D32, D33 and D34 say the same three things, each of its own state
 abbrev pub both_unmodified : Phase → Item
-both_unmodified phase = goes_to AtNull (connections_get (with SaysAsCame) (about (calledIn phase came_some)))
+both_unmodified phase = goes_to AtNull (connections_get (with SaysAsCame) (about (called_in phase came_some)))
 
 abbrev pub both_silently : Phase → Item
-both_silently phase = goes_to AtNull (about (in_both hard_off (calledIn phase came_none)))
+both_silently phase = goes_to AtNull (about (in_both hard_off (called_in phase came_none)))
 
 abbrev pub both_with1 : Phase → Item
-both_with1 phase = goes_to AtNull (connections_get (with Says1) (about (in_both hard_on (calledIn phase came_none))))
+both_with1 phase = goes_to AtNull (connections_get (with Says1) (about (in_both hard_on (called_in phase came_none))))
 
 abbrev pub called_releases_at_destination : Phase → List Item
 called_releases_at_destination AtNull = []
 called_releases_at_destination AtIdle =
     -- D29-1
-    goes_to AtNull (incumbent_gets (with SaysAsCame) (about (calledIn AtIdle came_some)))
+    goes_to AtNull (incumbent_gets (with SaysAsCame) (about (called_in AtIdle came_some)))
     -- D29-2: silent on the cause
-    ∷ goes_to AtNull (about (in_both hard_off (calledIn AtIdle came_none)))
+    ∷ goes_to AtNull (about (in_both hard_off (called_in AtIdle came_none)))
     -- D29-3
-    ∷ goes_to AtNull (incumbent_gets (with Says1) (about (in_both hard_on (calledIn AtIdle came_none))))
+    ∷ goes_to AtNull (incumbent_gets (with Says1) (about (in_both hard_on (called_in AtIdle came_none))))
     -- C-3, Rel Cld (Dnp 0)
-    ∷ cell AtNull (calledIn AtIdle came_any)
+    ∷ cell AtNull (called_in AtIdle came_any)
     ∷ []
 called_releases_at_destination AtHardIndicated =
     -- D30-1
-    goes_to AtNull (about (calledIn AtHardIndicated came_any))
+    goes_to AtNull (about (called_in AtHardIndicated came_any))
     -- C-3, Rel Cld (Dnp 1)
-    ∷ cell AtNull (calledIn AtHardIndicated came_any)
+    ∷ cell AtNull (called_in AtHardIndicated came_any)
     ∷ []
 called_releases_at_destination AtHardInitiated =
     -- D31-1
-    goes_to AtNull (rerouting_gets (with SaysAsCame) (about (calledIn AtHardInitiated came_some)))
+    goes_to AtNull (rerouting_gets (with SaysAsCame) (about (called_in AtHardInitiated came_some)))
     -- D31-2: whether hard is on is not asked (decision 66)
-    ∷ goes_to AtNull (rerouting_gets (with Says1) (about (calledIn AtHardInitiated came_none)))
+    ∷ goes_to AtNull (rerouting_gets (with Says1) (about (called_in AtHardInitiated came_none)))
     -- C-3, Rel Cld (Dnp 2)
-    ∷ cell AtNull (calledIn AtHardInitiated came_any)
+    ∷ cell AtNull (called_in AtHardInitiated came_any)
     ∷ []
 called_releases_at_destination AtSoftTriggered =
     -- 6.3.4.1, by way of 6.3.4.7: cleared as any call, so with no Rerouting cause, whatever came and whether hard is on (decision 65)
-    goes_to AtNull (incumbent_gets plainly (about (calledIn AtSoftTriggered came_any)))
+    goes_to AtNull (incumbent_gets plainly (about (called_in AtSoftTriggered came_any)))
     -- C-3, Rel Cld (Dnp 0)
-    ∷ cell AtNull (calledIn AtSoftTriggered came_any)
+    ∷ cell AtNull (called_in AtSoftTriggered came_any)
     ∷ []
 called_releases_at_destination AtSoftProceeding =
     -- D34-1
@@ -310,7 +312,7 @@ called_releases_at_destination AtSoftProceeding =
     -- D34-3
     ∷ both_with1 AtSoftProceeding
     -- C-3, Rel Cld (Dnp 3)
-    ∷ cell AtNull (calledIn AtSoftProceeding came_any)
+    ∷ cell AtNull (called_in AtSoftProceeding came_any)
     ∷ []
 called_releases_at_destination AtSoftInitiated =
     -- D32-1
@@ -320,7 +322,7 @@ called_releases_at_destination AtSoftInitiated =
     -- D32-3
     ∷ both_with1 AtSoftInitiated
     -- C-3, Rel Cld (Dnp 3)
-    ∷ cell AtNull (calledIn AtSoftInitiated came_any)
+    ∷ cell AtNull (called_in AtSoftInitiated came_any)
     ∷ []
 called_releases_at_destination AtAwaiting =
     -- D33-1
@@ -330,36 +332,36 @@ called_releases_at_destination AtAwaiting =
     -- D33-3
     ∷ both_with1 AtAwaiting
     -- C-3, Rel Cld (Dnp 3)
-    ∷ cell AtNull (calledIn AtAwaiting came_any)
+    ∷ cell AtNull (called_in AtAwaiting came_any)
     ∷ []
 
 -- RELEASE FROM THE CALLING SIDE. In every section a cause is read also with hard off (decision 68), #1 goes on without modification
 -- (decision 67), and any other cause, #4 too, becomes #2 (6.3.4.2 case 3, 6.3.4.4 case 3, 6.3.4.5 case 3, 6.3.4.6 case 5); only for the
 -- incumbent in Awaiting #4 is none of these
 abbrev pub forwarded1 : Phase → Role → Item
-forwarded1 phase named = goes_to AtNull (calledGets (with SaysAsCame) (about (callingIn phase named came1)))
+forwarded1 phase named = goes_to AtNull (called_gets (with SaysAsCame) (about (calling_in phase named came1)))
 
 -- of the items that set #1, the state; the number is departed from
 abbrev pub over_by1 : Phase → Role → Item
-over_by1 phase named = goes_to AtNull (about (callingIn phase named came1))
+over_by1 phase named = goes_to AtNull (about (calling_in phase named came1))
 
 -- any other cause: the number 2, also where #2 came (decision 67)
 abbrev pub over_by2 : (Class → Bool) → Phase → Role → Item
-over_by2 test phase named = goes_to AtNull (calledGets (with Says2) (about (callingIn phase named test)))
+over_by2 test phase named = goes_to AtNull (called_gets (with Says2) (about (calling_in phase named test)))
 
 -- silent on the cause
 abbrev pub ended_hard_off : Phase → Item
-ended_hard_off phase = goes_to AtNull (about (in_both hard_off (callingIn phase NamesIncumbent came_any)))
+ended_hard_off phase = goes_to AtNull (about (in_both hard_off (calling_in phase NamesIncumbent came_any)))
 
 -- the rerouting connection's own release has no Rerouting cause (6.3.4.5 case 3; decision 68)
 abbrev pub rerouting_plainly : Phase → Item
-rerouting_plainly phase = rerouting_gets plainly (about (callingIn phase NamesIncumbent came_some))
+rerouting_plainly phase = rerouting_gets plainly (about (calling_in phase NamesIncumbent came_some))
 
 -- C-3, Rel Clg I.RC#4 and I.RC, in every state but Awaiting
 abbrev pub incumbent_cells : Phase → List Item → List Item
 incumbent_cells phase more =
-    cell AtNull (callingIn phase NamesIncumbent came4)
-    ∷ cell AtNull (callingIn phase NamesIncumbent came_not4)
+    cell AtNull (calling_in phase NamesIncumbent came4)
+    ∷ cell AtNull (calling_in phase NamesIncumbent came_not4)
     ∷ more
 
 abbrev pub calling_in_idle : List Item
@@ -373,9 +375,9 @@ calling_in_idle =
     -- D29-6
     ∷ over_by2 came_not1 AtIdle NamesIncumbent
     -- D29-7
-    ∷ goes_to AtHardIndicated (about (in_both hard_on (callingIn AtIdle NamesIncumbent came_none)))
+    ∷ goes_to AtHardIndicated (about (in_both hard_on (calling_in AtIdle NamesIncumbent came_none)))
     -- C-3, Rel Clg I.nRC (Dnp 8)
-    ∷ cell AtHardIndicated (callingIn AtIdle NamesIncumbent came_none)
+    ∷ cell AtHardIndicated (calling_in AtIdle NamesIncumbent came_none)
     -- C-3, Rel Clg I.RC#4 and I.RC (Dnp 4)
     ∷ incumbent_cells AtIdle []
 
@@ -389,17 +391,17 @@ calling_in_hard_initiated =
     -- D31-4
     ∷ over_by2 came_not1 AtHardInitiated NamesRerouting
     -- D31-5: while the timer runs, which is this state; at 65,535 too (decision 69)
-    ∷ goes_to AtHardIndicated (about (callingIn AtHardInitiated NamesRerouting came_none))
+    ∷ goes_to AtHardIndicated (about (calling_in AtHardInitiated NamesRerouting came_none))
     -- C-3, Rel Clg R.nRC (Dnp 11)
-    ∷ cell AtHardIndicated (callingIn AtHardInitiated NamesRerouting came_none)
+    ∷ cell AtHardIndicated (calling_in AtHardInitiated NamesRerouting came_none)
     -- C-3, Rel Clg R.RC (Dnp 6)
-    ∷ cell AtNull (callingIn AtHardInitiated NamesRerouting came_some)
+    ∷ cell AtNull (calling_in AtHardInitiated NamesRerouting came_some)
     ∷ []
 
 -- Soft Triggered: 6.3.4.1, by way of 6.3.4.7, whatever came and whether hard is on (decision 65)
 abbrev pub calling_in_soft_triggered : List Item
 calling_in_soft_triggered =
-    goes_to AtNull (calledGets plainly (about (callingIn AtSoftTriggered NamesIncumbent came_any)))
+    goes_to AtNull (called_gets plainly (about (calling_in AtSoftTriggered NamesIncumbent came_any)))
     -- C-3, Rel Clg I.RC#4 and I.RC (Dnp 4)
     ∷ incumbent_cells AtSoftTriggered []
 
@@ -416,9 +418,9 @@ soft_proceeding_incumbent =
     -- D34-6
     ∷ over_by2 came_not1 AtSoftProceeding NamesIncumbent
     -- D34-7: #21 is the Cause code, and no Rerouting cause stands beside it (decision 12)
-    ∷ goes_to AtHardIndicated (rerouting_gets turned_away (about (in_both hard_on (callingIn AtSoftProceeding NamesIncumbent came_none))))
+    ∷ goes_to AtHardIndicated (rerouting_gets turned_away (about (in_both hard_on (calling_in AtSoftProceeding NamesIncumbent came_none))))
     -- C-3, Rel Clg I.nRC (Dnp 25)
-    ∷ cell AtHardIndicated (callingIn AtSoftProceeding NamesIncumbent came_none)
+    ∷ cell AtHardIndicated (calling_in AtSoftProceeding NamesIncumbent came_none)
     -- C-3, Rel Clg I.RC#4 and I.RC (Dnp 5)
     ∷ incumbent_cells AtSoftProceeding []
 
@@ -426,9 +428,11 @@ soft_proceeding_incumbent =
 abbrev pub soft_proceeding_rerouting : List Item
 soft_proceeding_rerouting =
     -- a retry at 65,535 is as if none was found (decision 69)
-    goes_to AtIdle (closes_by NoClosing (about (in_both at_last_number (cranked_in AtSoftProceeding NamesRerouting came_any cranked_found))))
+    goes_to AtIdle
+        (closes_by NoClosing (about (in_both at_last_number (cranked_in AtSoftProceeding NamesRerouting came_any cranked_found))))
     -- D34-8: crankback is a setup on a new number (decision 69)
-    ∷ goes_to AtSoftProceeding (setup_is_sent (about (in_both with_room (cranked_in AtSoftProceeding NamesRerouting came_any cranked_found))))
+    ∷ goes_to AtSoftProceeding
+        (setup_is_sent (about (in_both with_room (cranked_in AtSoftProceeding NamesRerouting came_any cranked_found))))
     -- D34-10
     ∷ goes_to AtIdle (about (cranked_in AtSoftProceeding NamesRerouting came_any cranked_lost))
     -- D34-11
@@ -454,9 +458,9 @@ soft_initiated_incumbent =
     -- D32-6
     ∷ over_by2 came_not1 AtSoftInitiated NamesIncumbent
     -- D32-7: the setup that came earlier goes on, so nothing is sent for it now
-    ∷ goes_to AtHardInitiated (closes_by NoClosing (about (in_both hard_on (callingIn AtSoftInitiated NamesIncumbent came_none))))
+    ∷ goes_to AtHardInitiated (closes_by NoClosing (about (in_both hard_on (calling_in AtSoftInitiated NamesIncumbent came_none))))
     -- C-3, Rel Clg I.nRC (Dnp 9)
-    ∷ cell AtHardInitiated (callingIn AtSoftInitiated NamesIncumbent came_none)
+    ∷ cell AtHardInitiated (calling_in AtSoftInitiated NamesIncumbent came_none)
     -- C-3, Rel Clg I.RC#4 and I.RC (Dnp 5)
     ∷ incumbent_cells AtSoftInitiated []
 
@@ -464,10 +468,10 @@ soft_initiated_incumbent =
 abbrev pub soft_initiated_rerouting : List Item
 soft_initiated_rerouting =
     -- D32-8
-    goes_to AtIdle (about (callingIn AtSoftInitiated NamesRerouting came_any))
+    goes_to AtIdle (about (calling_in AtSoftInitiated NamesRerouting came_any))
     -- C-3, Rel Clg R.nRC and R.RC (Dnp 12)
-    ∷ cell AtIdle (callingIn AtSoftInitiated NamesRerouting came_none)
-    ∷ cell AtIdle (callingIn AtSoftInitiated NamesRerouting came_some)
+    ∷ cell AtIdle (calling_in AtSoftInitiated NamesRerouting came_none)
+    ∷ cell AtIdle (calling_in AtSoftInitiated NamesRerouting came_some)
     ∷ []
 
 -- Awaiting, for the incumbent: hard is not asked for (decision 68)
@@ -481,14 +485,14 @@ awaiting_incumbent =
     -- D33-5
     ∷ over_by2 came_neither AtAwaiting NamesIncumbent
     -- D33-6
-    ∷ goes_to AtIdle (switches_by true (about (callingIn AtAwaiting NamesIncumbent came_none)))
+    ∷ goes_to AtIdle (switches_by true (about (calling_in AtAwaiting NamesIncumbent came_none)))
     -- D33-7
-    ∷ goes_to AtIdle (switches_by true (about (callingIn AtAwaiting NamesIncumbent came4)))
+    ∷ goes_to AtIdle (switches_by true (about (calling_in AtAwaiting NamesIncumbent came4)))
     -- C-3, Rel Clg I.nRC and I.RC#4 (Dnp 10)
-    ∷ switches_by true (cell AtIdle (callingIn AtAwaiting NamesIncumbent came_none))
-    ∷ switches_by true (cell AtIdle (callingIn AtAwaiting NamesIncumbent came4))
+    ∷ switches_by true (cell AtIdle (calling_in AtAwaiting NamesIncumbent came_none))
+    ∷ switches_by true (cell AtIdle (calling_in AtAwaiting NamesIncumbent came4))
     -- C-3, Rel Clg I.RC (Dnp 5)
-    ∷ cell AtNull (callingIn AtAwaiting NamesIncumbent came_not4)
+    ∷ cell AtNull (calling_in AtAwaiting NamesIncumbent came_not4)
     ∷ []
 
 -- Awaiting, for the rerouting connection: #4 is another cause there (decision 69)
@@ -497,17 +501,17 @@ awaiting_rerouting =
     -- 6.3.4.6 case 5
     forwarded1 AtAwaiting NamesRerouting
     -- 6.3.4.6 case 5 is silent on it: the incumbent's own release has no Rerouting cause (decision 69)
-    ∷ incumbent_gets plainly (about (callingIn AtAwaiting NamesRerouting came_some))
+    ∷ incumbent_gets plainly (about (calling_in AtAwaiting NamesRerouting came_some))
     -- D33-8
     ∷ over_by1 AtAwaiting NamesRerouting
     -- D33-9
     ∷ over_by2 came_not1 AtAwaiting NamesRerouting
     -- D33-10
-    ∷ goes_to AtIdle (switches_by false (about (callingIn AtAwaiting NamesRerouting came_none)))
+    ∷ goes_to AtIdle (switches_by false (about (calling_in AtAwaiting NamesRerouting came_none)))
     -- C-3, Rel Clg R.nRC (Dnp 12)
-    ∷ switches_by false (cell AtIdle (callingIn AtAwaiting NamesRerouting came_none))
+    ∷ switches_by false (cell AtIdle (calling_in AtAwaiting NamesRerouting came_none))
     -- C-3, Rel Clg R.RC (Dnp 7)
-    ∷ cell AtNull (callingIn AtAwaiting NamesRerouting came_some)
+    ∷ cell AtNull (calling_in AtAwaiting NamesRerouting came_some)
     ∷ []
 
 abbrev pub calling_releases_at_destination : Phase → Role → List Item
@@ -558,7 +562,7 @@ departed_setups_at_destination AtAwaiting = departed_old_number AtAwaiting
 
 -- the items that set #1 where the sections forward the element without modification (decision 67)
 abbrev pub numbered1 : Phase → Role → Item
-numbered1 phase named = goes_to AtNull (calledGets (with Says1) (about (callingIn phase named came1)))
+numbered1 phase named = goes_to AtNull (called_gets (with Says1) (about (calling_in phase named came1)))
 
 abbrev pub departed_calling_releases : Phase → List Item
 departed_calling_releases AtNull = []
@@ -573,16 +577,17 @@ departed_calling_releases AtHardInitiated =
     ∷ []
 departed_calling_releases AtSoftTriggered =
     -- C-3, Rel Clg I.nRC (Dnp 8): 6.3.4.7 to the letter (decisions 65 and 75)
-    cell AtHardIndicated (callingIn AtSoftTriggered NamesIncumbent came_none)
+    cell AtHardIndicated (calling_in AtSoftTriggered NamesIncumbent came_none)
     -- C-3, Rel Clg I.RC#4 and I.RC (Dnp 4), the cause, "#1 or #2": neither (decision 65)
-    ∷ calledGets (with Says1) (cell AtNull (callingIn AtSoftTriggered NamesIncumbent came_some))
-    ∷ calledGets (with Says2) (cell AtNull (callingIn AtSoftTriggered NamesIncumbent came_some))
+    ∷ called_gets (with Says1) (cell AtNull (calling_in AtSoftTriggered NamesIncumbent came_some))
+    ∷ called_gets (with Says2) (cell AtNull (calling_in AtSoftTriggered NamesIncumbent came_some))
     ∷ []
 departed_calling_releases AtSoftProceeding =
     -- D34-5, the number
     numbered1 AtSoftProceeding NamesIncumbent
     -- D34-8 at 65,535: as if none was found (decision 69)
-    ∷ goes_to AtSoftProceeding (setup_is_sent (about (in_both at_last_number (cranked_in AtSoftProceeding NamesRerouting came_any cranked_found))))
+    ∷ goes_to AtSoftProceeding
+        (setup_is_sent (about (in_both at_last_number (cranked_in AtSoftProceeding NamesRerouting came_any cranked_found))))
     -- C-3, note 3, where no path is found: 6.3.4.8 case 6, D34-10 (decision 75)
     ∷ cell AtSoftProceeding (cranked_in AtSoftProceeding NamesRerouting came_none cranked_lost)
     -- C-3, Rel Clg R.RC (Dnp 12), where one is found: 6.3.4.8 case 5 does not ask for a cause, nor does D34-8 (decisions 69 and 75)
@@ -601,8 +606,8 @@ departed_calling_releases AtAwaiting =
 -- C-3, Rel Cld (Dnp 0) in Soft Triggered, the cause, "#1 or #2": neither, whether one came or not (decision 65)
 abbrev pub departed_called_releases : List Item
 departed_called_releases =
-    incumbent_gets (with Says1) (cell AtNull (calledIn AtSoftTriggered came_any))
-    ∷ incumbent_gets (with Says2) (cell AtNull (calledIn AtSoftTriggered came_any))
+    incumbent_gets (with Says1) (cell AtNull (called_in AtSoftTriggered came_any))
+    ∷ incumbent_gets (with Says2) (cell AtNull (called_in AtSoftTriggered came_any))
     ∷ []
 
 abbrev pub destination_departed : Phase → Happening → List Item

@@ -24,7 +24,7 @@ use Rattle.events.specs.declared.Event.{Event}
 use Rattle.rows.specs.States.{is_null}
 use Rattle.call.specs.Claims.{Heard, Lawful, answer_given}
 use Rattle.call.specs.Events.{Half, handled_at}
-use Rattle.call.specs.Record.{emptied, standing as standing-of}
+use Rattle.call.specs.Record.{emptied, standing as standing_of}
 use Rattle.call.specs.declared.Call.{Call}
 use Rattle.call.specs.declared.Outcome.{Outcome}
 use Rattle.call_table.specs.Fit.{fit_table}
@@ -107,7 +107,7 @@ module _ (s : Sieve) (L : Lawful s.half) (S : Sifts s) (steady : ByServices s) w
         by true t = refl
         by false t =
             absurd ((((event s.half L).given0 before e after refl).0 (here s.half L ys k e done).1).0
-            (ap (s.half.demands.meaningless (standing-of before)) is.1 ∙ (S.meant before is.0 number (live s.half L ys k e done) ∙ ap not t)))
+            (ap (s.half.demands.meaningless (standing_of before)) is.1 ∙ (S.meant before is.0 number (live s.half L ys k e done) ∙ ap not t)))
 
     past_it : IsPast calls (numbering s) number after.call
     past_it = (still_takes before e on ∙ takes, stored)

@@ -45,8 +45,8 @@ use Rattle.promises.specs.Inserted.{HasInsertions, LacksInWords, TakesInWords, d
 use Rattle.promises.specs.ShutOut.{ShutsOut}
 use Rattle.promises.specs.Inserted as claim
 use Rattle.promises.proofs.Claims as any
-use Rattle.promises.proofs.Inserted as any-run
-use Rattle.promises.proofs.ShutOut as any-control
+use Rattle.promises.proofs.Inserted as any_run
+use Rattle.promises.proofs.ShutOut as any_control
 
 -- ---- its number check
 -- the code is looked at first, outside the Hard states, and then the number
@@ -103,10 +103,10 @@ pub promises : KeepsPromises destination_sieve
 promises = any.promises destination_sieve lawful sifts by_services
 
 pub insertions : HasInsertions destination_sieve destination_in_words unrecognized
-insertions = any-run.insertions destination_sieve destination_in_words takes_in_words lacks_in_words shows unrecognized refl
+insertions = any_run.insertions destination_sieve destination_in_words takes_in_words lacks_in_words shows unrecognized refl
 
 pub shut_out : ShutsOut destination_sieve
-shut_out = any-control.shut_out destination_sieve shows lawful
+shut_out = any_control.shut_out destination_sieve shows lawful
 
 -- ---- its Hard states
 pub only_late_when_hard : claim.OnlyLateWhenHard

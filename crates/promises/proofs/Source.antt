@@ -22,8 +22,8 @@ use Rattle.promises.specs.Ends.{ByServices, Sifts, source_sieve}
 use Rattle.promises.specs.Inserted.{HasInsertions, LacksInWords, TakesInWords, source_in_words}
 use Rattle.promises.specs.ShutOut.{ShutsOut}
 use Rattle.promises.proofs.Claims as any
-use Rattle.promises.proofs.Inserted as any-run
-use Rattle.promises.proofs.ShutOut as any-control
+use Rattle.promises.proofs.Inserted as any_run
+use Rattle.promises.proofs.ShutOut as any_control
 
 -- ---- its number check
 -- the code is looked at first, then the number, then whether the call is busy
@@ -61,7 +61,7 @@ pub promises : KeepsPromises source_sieve
 promises = any.promises source_sieve lawful sifts by_services
 
 pub insertions : HasInsertions source_sieve source_in_words immediate
-insertions = any-run.insertions source_sieve source_in_words takes_in_words lacks_in_words shows immediate refl
+insertions = any_run.insertions source_sieve source_in_words takes_in_words lacks_in_words shows immediate refl
 
 pub shut_out : ShutsOut source_sieve
-shut_out = any-control.shut_out source_sieve shows lawful
+shut_out = any_control.shut_out source_sieve shows lawful

@@ -90,7 +90,7 @@ numbers_spent d x e = asks_number d x e && not (has_room x.last)
 
 -- the first check that applies gives the answer; 0 where none does
 abbrev pub first_of : Bool → Bool → Bool → ℕ
-first_of meaningless notHeld spent = cond meaningless 106 (cond notHeld 107 (cond spent 108 0))
+first_of meaningless not_held spent = cond meaningless 106 (cond not_held 107 (cond spent 108 0))
 
 abbrev pub answer_number_wanted : Demands → Standing → Event → ℕ
 answer_number_wanted d x e = first_of (d.meaningless x e) (names_not_held x.state e) (numbers_spent d x e)

@@ -54,7 +54,8 @@ pub record CaseHandsOn (x : Standing) : Type 0 where
   pub path : (case_of x PathFound).happening ≡ FoundPath
   pub no_path : (case_of x NoPath).happening ≡ FoundNone
   pub connect : (c : ℕ) (agreed : Bool) → (case_of x (Connect c agreed)).happening ≡ Connected (role_of x.state c) agreed
-  pub setup : (code : Switchover) (number : ℕ) → (case_of x (Setup code number)).happening ≡ SetUp (asking_of code) (is_late number x.remote)
+  pub setup : (code : Switchover) (number : ℕ) →
+      (case_of x (Setup code number)).happening ≡ SetUp (asking_of code) (is_late number x.remote)
   pub from_party : (got : ReceivedCause) → (case_of x (FromParty got)).happening ≡ PartyReleased (class_of got)
   pub from_domain : (c : ℕ) (got : ReceivedCause) (tried : Crankback) →
       (case_of x (FromDomain c got tried)).happening ≡ DomainReleased (role_of x.state c) (class_of got) tried

@@ -2,7 +2,8 @@
 -- Assumes nothing.
 use Rattle.std.specs.Prelude.{ℕ, Bool, ◌&&◌, ◌||◌, false, true, List, [], ◌++◌, ◌∷◌}
 use Rattle.signal.specs.Causes.{as_received, cause}
-use Rattle.signal.specs.Signals.{connect_on, none, places, rejection, release_of, release_with, setup_on, switch_to, timer_start, timer_stop}
+use Rattle.signal.specs.Signals.{connect_on, none, places, rejection, release_of, release_with}
+use Rattle.signal.specs.Signals.{setup_on, switch_to, timer_start, timer_stop}
 use Rattle.signal.specs.declared.Answer.{Answer}
 use Rattle.signal.specs.declared.Answer.TheVariants.{Done}
 use Rattle.signal.specs.declared.Fresh.{Fresh}

@@ -371,7 +371,8 @@ rejects_with [] (Rejects say code) = false
 rejects_with (wanted ∷ more) NoClosing = false
 rejects_with (wanted ∷ more) (SendsSetup slot) = false
 rejects_with (wanted ∷ more) (SendsConnect slot) = false
-rejects_with (wanted ∷ more) (Rejects say code) = same_saying say wanted && (same_code code Section66 && (is_empty more && says_number wanted))
+rejects_with (wanted ∷ more) (Rejects say code) =
+    same_saying say wanted && (same_code code Section66 && (is_empty more && says_number wanted))
 
 -- a rejected setup is one for a call, is answered 0, leaves the call in its state with what it holds, and sends that rejection alone
 abbrev pub left_alone : Case → Rule → List Bool

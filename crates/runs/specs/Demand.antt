@@ -97,7 +97,8 @@ module _ (E : End) (N : Numbering E) where
   -- and once it has ended each of them was ended exactly once, and no other
   abbrev pub SettlesAnywhere : Control E → Type 0
   SettlesAnywhere C =
-      (n : ℕ) (before : List (KeyedRequest E)) (k : ℕ) → (k ≡ 0 → ⊥) → E.key (call_by_key E k (table_after E C (empty_table E n) before)) ≡ 0 →
+      (n : ℕ) (before : List (KeyedRequest E)) (k : ℕ) → (k ≡ 0 → ⊥) →
+      E.key (call_by_key E k (table_after E C (empty_table E n) before)) ≡ 0 →
       let l = logged E C k (empty_table E n) empty_log before in Settled (record { given = l.given; ended = l.ended })
 
   -- setups of one kind alone, say the late ones, are harmless too

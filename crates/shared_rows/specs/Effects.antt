@@ -29,7 +29,8 @@ soft_path_effect node next i = carried_at node (SoftTriggered i) next NoCause (s
 
 abbrev pub soft_connect_effect : Node → ℕ → Bool → ℕ → ℕ → Effect
 soft_connect_effect node c agreed i r =
-    carried_at node (SoftProceeding i r) Spent NoCause (of_rerouting (role_of (SoftProceeding i r) c) AtSoftProceeding (soft_connected agreed))
+    carried_at node (SoftProceeding i r) Spent NoCause
+    (of_rerouting (role_of (SoftProceeding i r) c) AtSoftProceeding (soft_connected agreed))
 
 abbrev pub soft_crankback_effect : Node → ReceivedCause → Crankback → Fresh → ℕ → ℕ → Effect
 soft_crankback_effect node cause tried next i r = carried_at node (SoftProceeding i r) next cause (soft_crankback tried (is_next next))

@@ -18,11 +18,15 @@ use Rattle.rows.specs.Papers.{Item, Papers}
 use Rattle.rows.specs.Rules.{NoClosing, Says1, Says2, Says4, Says5, Says6, Says8}
 use Rattle.rows.specs.Rules.{SaysAsCame, Untold, is_done, plainly, turned_away, with}
 use Rattle.rows.specs.Situations.{about, asks_immediate, asks_unrecognized, at_last_number, came1, came4, came_any, came_neither, came_not1}
-use Rattle.rows.specs.Situations.{came_not4, came_some, cell, checked_by, closes_by, connect_in, connections_get, connect_is_sent, cranked_found}
-use Rattle.rows.specs.Situations.{cranked_in, cranked_lost, cranked_none, domain_release_in as calledIn, for_named, goes_to, happens_in, hard_off}
+use Rattle.rows.specs.Situations.{came_not4, came_some, cell, checked_by, closes_by}
+use Rattle.rows.specs.Situations.{connect_in, connections_get, connect_is_sent, cranked_found}
+use Rattle.rows.specs.Situations.{cranked_in, cranked_lost, cranked_none, domain_release_in as called_in, for_named}
+use Rattle.rows.specs.Situations.{goes_to, happens_in, hard_off}
 use Rattle.rows.specs.Situations.{hard_on, in_both, incumbent_gets, is_late_setup, is_setup, is_soft_setup, is_stored_by}
-use Rattle.rows.specs.Situations.{party_and_rerouting_get as callingAndReroutingGet, party_gets as callingGets, party_release_in as callingIn}
-use Rattle.rows.specs.Situations.{policy_any, policy_yes, rejected_with, rerouting_gets, setup_came_in, setup_is_sent, switches_by, with_room}
+use Rattle.rows.specs.Situations.{party_and_rerouting_get as calling_and_rerouting_get, party_gets as calling_gets}
+use Rattle.rows.specs.Situations.{party_release_in as calling_in}
+use Rattle.rows.specs.Situations.{policy_any, policy_yes, rejected_with, rerouting_gets, setup_came_in}
+use Rattle.rows.specs.Situations.{setup_is_sent, switches_by, with_room}
 use Rattle.rows.specs.States.{AtAwaiting, AtHardUnderway, AtHardWaiting, AtIdle, AtNull, AtSoftInitiated, AtSoftProceeding}
 use Rattle.rows.specs.States.{AtSoftTriggered, Phase, is_hard_phase}
 
@@ -210,59 +214,59 @@ readies =
 abbrev pub expiries : List Item
 expiries =
     -- D20-1
-    goes_to AtNull (callingGets (with Says2) (about (happens_in Expired AtHardWaiting)))
+    goes_to AtNull (calling_gets (with Says2) (about (happens_in Expired AtHardWaiting)))
     -- C-1, Timer (Snp 19)
-    ∷ callingGets (with Says2) (cell AtNull (happens_in Expired AtHardWaiting))
+    ∷ calling_gets (with Says2) (cell AtNull (happens_in Expired AtHardWaiting))
     -- D20-2
-    ∷ goes_to AtNull (callingAndReroutingGet (with Says2) (about (happens_in Expired AtHardUnderway)))
+    ∷ goes_to AtNull (calling_and_rerouting_get (with Says2) (about (happens_in Expired AtHardUnderway)))
     -- C-1, Timer (Snp 20)
-    ∷ callingAndReroutingGet (with Says2) (cell AtNull (happens_in Expired AtHardUnderway))
+    ∷ calling_and_rerouting_get (with Says2) (cell AtNull (happens_in Expired AtHardUnderway))
     ∷ []
 
 -- RELEASE FROM THE CALLING SIDE. Where two connections are held, D17, D18 and D19 say the same three things, each of its own state
 abbrev pub cleared_unmodified : Phase → Item
-cleared_unmodified phase = goes_to AtNull (connections_get (with SaysAsCame) (about (callingIn phase came_some)))
+cleared_unmodified phase = goes_to AtNull (connections_get (with SaysAsCame) (about (calling_in phase came_some)))
 
 abbrev pub cleared_silently : Phase → Item
-cleared_silently phase = goes_to AtNull (about (in_both hard_off (callingIn phase came_none)))
+cleared_silently phase = goes_to AtNull (about (in_both hard_off (calling_in phase came_none)))
 
 abbrev pub cleared_with1 : Phase → Item
-cleared_with1 phase = goes_to AtNull (connections_get (with Says1) (about (in_both hard_on (callingIn phase came_none))))
+cleared_with1 phase = goes_to AtNull (connections_get (with Says1) (about (in_both hard_on (calling_in phase came_none))))
 
 abbrev pub calling_releases : Phase → List Item
 calling_releases AtNull = []
 calling_releases AtIdle =
     -- D14-1
-    goes_to AtNull (incumbent_gets (with SaysAsCame) (about (callingIn AtIdle came_some)))
+    goes_to AtNull (incumbent_gets (with SaysAsCame) (about (calling_in AtIdle came_some)))
     -- D14-2: silent on the cause
-    ∷ goes_to AtNull (about (in_both hard_off (callingIn AtIdle came_none)))
+    ∷ goes_to AtNull (about (in_both hard_off (calling_in AtIdle came_none)))
     -- D14-3
-    ∷ goes_to AtNull (incumbent_gets (with Says1) (about (in_both hard_on (callingIn AtIdle came_none))))
+    ∷ goes_to AtNull (incumbent_gets (with Says1) (about (in_both hard_on (calling_in AtIdle came_none))))
     -- C-1, Rel Clg (Snp 0)
-    ∷ cell AtNull (callingIn AtIdle came_any)
+    ∷ cell AtNull (calling_in AtIdle came_any)
     ∷ []
 calling_releases AtHardWaiting =
     -- D15-1
-    goes_to AtNull (about (callingIn AtHardWaiting came_any))
+    goes_to AtNull (about (calling_in AtHardWaiting came_any))
     -- C-1, Rel Clg (Snp 1)
-    ∷ cell AtNull (callingIn AtHardWaiting came_any)
+    ∷ cell AtNull (calling_in AtHardWaiting came_any)
     ∷ []
 calling_releases AtHardUnderway =
     -- D16-1
-    goes_to AtNull (rerouting_gets (with SaysAsCame) (about (callingIn AtHardUnderway came_some)))
+    goes_to AtNull (rerouting_gets (with SaysAsCame) (about (calling_in AtHardUnderway came_some)))
     -- D16-2: whether hard is on is not asked (decision 6)
-    ∷ goes_to AtNull (rerouting_gets (with Says1) (about (callingIn AtHardUnderway came_none)))
+    ∷ goes_to AtNull (rerouting_gets (with Says1) (about (calling_in AtHardUnderway came_none)))
     -- C-1, Rel Clg (Snp 2)
-    ∷ cell AtNull (callingIn AtHardUnderway came_any)
+    ∷ cell AtNull (calling_in AtHardUnderway came_any)
     ∷ []
 calling_releases AtSoftTriggered =
     -- D13-1, which is 6.2.4.1 case 1, by way of 6.2.4.5 (decision 1)
-    goes_to AtNull (incumbent_gets (with Says1) (about (in_both hard_on (callingIn AtSoftTriggered came_none))))
+    goes_to AtNull (incumbent_gets (with Says1) (about (in_both hard_on (calling_in AtSoftTriggered came_none))))
     -- 6.2.4.1, otherwise, by way of 6.2.4.5: cleared as any call, so with no Rerouting cause, also where one came (decision 1)
-    ∷ goes_to AtNull (incumbent_gets plainly (about (in_both hard_off (callingIn AtSoftTriggered came_none))))
-    ∷ goes_to AtNull (incumbent_gets plainly (about (callingIn AtSoftTriggered came_some)))
+    ∷ goes_to AtNull (incumbent_gets plainly (about (in_both hard_off (calling_in AtSoftTriggered came_none))))
+    ∷ goes_to AtNull (incumbent_gets plainly (about (calling_in AtSoftTriggered came_some)))
     -- C-1, Rel Clg (Snp 0)
-    ∷ cell AtNull (callingIn AtSoftTriggered came_any)
+    ∷ cell AtNull (calling_in AtSoftTriggered came_any)
     ∷ []
 calling_releases AtSoftProceeding =
     -- D17-1
@@ -272,7 +276,7 @@ calling_releases AtSoftProceeding =
     -- D17-3
     ∷ cleared_with1 AtSoftProceeding
     -- C-1, Rel Clg (Snp 3)
-    ∷ cell AtNull (callingIn AtSoftProceeding came_any)
+    ∷ cell AtNull (calling_in AtSoftProceeding came_any)
     ∷ []
 calling_releases AtSoftInitiated =
     -- D18-1
@@ -282,7 +286,7 @@ calling_releases AtSoftInitiated =
     -- D18-3
     ∷ cleared_with1 AtSoftInitiated
     -- C-1, Rel Clg (Snp 3)
-    ∷ cell AtNull (callingIn AtSoftInitiated came_any)
+    ∷ cell AtNull (calling_in AtSoftInitiated came_any)
     ∷ []
 calling_releases AtAwaiting =
     -- D19-1
@@ -292,77 +296,81 @@ calling_releases AtAwaiting =
     -- D19-3
     ∷ cleared_with1 AtAwaiting
     -- C-1, Rel Clg (Snp 3)
-    ∷ cell AtNull (callingIn AtAwaiting came_any)
+    ∷ cell AtNull (calling_in AtAwaiting came_any)
     ∷ []
 
 -- RELEASE FROM THE CALLED SIDE. For the incumbent in Soft Proceeding and Soft Initiated 01's rows put hard off first, and so ask for a
 -- cause only with hard on (decision 6); with hard off D17-5, D17-6, D18-5 and D18-6 are departed from
 abbrev pub ended_without : Phase → Item
-ended_without phase = goes_to AtNull (callingAndReroutingGet plainly (about (in_both hard_off (calledIn phase NamesIncumbent came_any))))
+ended_without phase =
+    goes_to AtNull (calling_and_rerouting_get plainly (about (in_both hard_off (called_in phase NamesIncumbent came_any))))
 
 abbrev pub ended_silently : Phase → Item
-ended_silently phase = goes_to AtNull (about (in_both hard_off (calledIn phase NamesIncumbent came_any)))
+ended_silently phase = goes_to AtNull (about (in_both hard_off (called_in phase NamesIncumbent came_any)))
 
 -- the number (decision 5)
 abbrev pub ended_with1 : Phase → Item
-ended_with1 phase = goes_to AtNull (callingAndReroutingGet (with Says1) (about (in_both hard_on (calledIn phase NamesIncumbent came1))))
+ended_with1 phase = goes_to AtNull (calling_and_rerouting_get (with Says1) (about (in_both hard_on (called_in phase NamesIncumbent came1))))
 
 -- #4 is such a cause (decision 7)
 abbrev pub ended_with2 : Phase → Item
-ended_with2 phase = goes_to AtNull (callingAndReroutingGet (with Says2) (about (in_both hard_on (calledIn phase NamesIncumbent came_not1))))
+ended_with2 phase =
+    goes_to AtNull (calling_and_rerouting_get (with Says2) (about (in_both hard_on (called_in phase NamesIncumbent came_not1))))
 
 -- Idle
 abbrev pub called_in_idle : List Item
 called_in_idle =
     -- 6.2.4.2 case 3: #1 goes on without modification, with hard off too (decisions 5 and 6)
-    goes_to AtNull (callingGets (with SaysAsCame) (about (calledIn AtIdle NamesIncumbent came1)))
+    goes_to AtNull (calling_gets (with SaysAsCame) (about (called_in AtIdle NamesIncumbent came1)))
     -- D14-4: silent on the cause
-    ∷ goes_to AtNull (about (in_both hard_off (calledIn AtIdle NamesIncumbent came_any)))
+    ∷ goes_to AtNull (about (in_both hard_off (called_in AtIdle NamesIncumbent came_any)))
     -- D14-5: the state
-    ∷ goes_to AtNull (about (calledIn AtIdle NamesIncumbent came1))
+    ∷ goes_to AtNull (about (called_in AtIdle NamesIncumbent came1))
     -- D14-6: with hard off too (decision 6)
-    ∷ goes_to AtNull (callingGets (with Says2) (about (calledIn AtIdle NamesIncumbent came_not1)))
+    ∷ goes_to AtNull (calling_gets (with Says2) (about (called_in AtIdle NamesIncumbent came_not1)))
     -- D14-7
-    ∷ goes_to AtHardWaiting (about (in_both hard_on (calledIn AtIdle NamesIncumbent came_none)))
+    ∷ goes_to AtHardWaiting (about (in_both hard_on (called_in AtIdle NamesIncumbent came_none)))
     -- C-1, Rel Cld I.nRC (Snp 8)
-    ∷ cell AtHardWaiting (calledIn AtIdle NamesIncumbent came_none)
+    ∷ cell AtHardWaiting (called_in AtIdle NamesIncumbent came_none)
     -- C-1, Rel Cld I.RC#4 and I.RC (Snp 4)
-    ∷ cell AtNull (calledIn AtIdle NamesIncumbent came4)
-    ∷ cell AtNull (calledIn AtIdle NamesIncumbent came_not4)
+    ∷ cell AtNull (called_in AtIdle NamesIncumbent came4)
+    ∷ cell AtNull (called_in AtIdle NamesIncumbent came_not4)
     ∷ []
 
 -- Hard Proceeding: a cause is asked for before crankback (decision 4)
 abbrev pub called_in_hard_proceeding : List Item
 called_in_hard_proceeding =
     -- 01, the last sentence on releases: a retry at 65,535 is no path, so 6.2.4.4 case 5 (decision 3)
-    goes_to AtNull (callingGets (with Says2) (about (in_both at_last_number (cranked_in AtHardUnderway NamesRerouting came_none cranked_found))))
-    ∷ goes_to AtNull (callingGets (with Says2) (about (in_both at_last_number (cranked_in AtHardUnderway NamesRerouting came_none cranked_none))))
+    goes_to AtNull
+        (calling_gets (with Says2) (about (in_both at_last_number (cranked_in AtHardUnderway NamesRerouting came_none cranked_found))))
+    ∷ goes_to AtNull
+        (calling_gets (with Says2) (about (in_both at_last_number (cranked_in AtHardUnderway NamesRerouting came_none cranked_none))))
     -- 6.2.4.4 case 3: #1 goes on without modification (decision 5)
-    ∷ goes_to AtNull (callingGets (with SaysAsCame) (about (calledIn AtHardUnderway NamesRerouting came1)))
+    ∷ goes_to AtNull (calling_gets (with SaysAsCame) (about (called_in AtHardUnderway NamesRerouting came1)))
     -- D16-3: the state
-    ∷ goes_to AtNull (about (calledIn AtHardUnderway NamesRerouting came1))
+    ∷ goes_to AtNull (about (called_in AtHardUnderway NamesRerouting came1))
     -- D16-4
-    ∷ goes_to AtNull (callingGets (with Says2) (about (calledIn AtHardUnderway NamesRerouting came_not1)))
+    ∷ goes_to AtNull (calling_gets (with Says2) (about (called_in AtHardUnderway NamesRerouting came_not1)))
     -- D16-5: crankback is a setup on a new number (decision 4)
     ∷ goes_to AtHardUnderway (setup_is_sent (about (in_both with_room (cranked_in AtHardUnderway NamesRerouting came_none cranked_found))))
     -- D16-7: in the direction of the calling party, so the calling side (6.2.4.4 case 5)
-    ∷ goes_to AtNull (callingGets (with Says2) (about (cranked_in AtHardUnderway NamesRerouting came_none cranked_lost)))
+    ∷ goes_to AtNull (calling_gets (with Says2) (about (cranked_in AtHardUnderway NamesRerouting came_none cranked_lost)))
     -- D16-8: the node's choice, which is to retry (decision 2)
     ∷ goes_to AtHardWaiting (about (in_both with_room (cranked_in AtHardUnderway NamesRerouting came_none cranked_none)))
     -- C-1, Rel Cld R.nRC (Snp 10), and its note 1 where a path is found
     ∷ cell AtHardWaiting (cranked_in AtHardUnderway NamesRerouting came_none cranked_none)
     ∷ cell AtHardUnderway (cranked_in AtHardUnderway NamesRerouting came_none cranked_found)
     -- C-1, Rel Cld R.RC (Snp 6)
-    ∷ cell AtNull (calledIn AtHardUnderway NamesRerouting came_some)
+    ∷ cell AtNull (called_in AtHardUnderway NamesRerouting came_some)
     ∷ []
 
 -- Soft Triggered: 6.2.4.1, otherwise, by way of 6.2.4.5, whatever came and whether hard is on (decision 1)
 abbrev pub called_in_soft_triggered : List Item
 called_in_soft_triggered =
-    goes_to AtNull (callingGets plainly (about (calledIn AtSoftTriggered NamesIncumbent came_any)))
+    goes_to AtNull (calling_gets plainly (about (called_in AtSoftTriggered NamesIncumbent came_any)))
     -- C-1, Rel Cld I.RC#4 and I.RC (Snp 4)
-    ∷ cell AtNull (calledIn AtSoftTriggered NamesIncumbent came4)
-    ∷ cell AtNull (calledIn AtSoftTriggered NamesIncumbent came_not4)
+    ∷ cell AtNull (called_in AtSoftTriggered NamesIncumbent came4)
+    ∷ cell AtNull (called_in AtSoftTriggered NamesIncumbent came_not4)
     ∷ []
 
 -- Soft Proceeding, for the incumbent
@@ -377,21 +385,23 @@ proceeding_incumbent =
     -- D17-6
     ∷ ended_with2 AtSoftProceeding
     -- D17-7
-    ∷ goes_to AtHardUnderway (about (in_both hard_on (calledIn AtSoftProceeding NamesIncumbent came_none)))
+    ∷ goes_to AtHardUnderway (about (in_both hard_on (called_in AtSoftProceeding NamesIncumbent came_none)))
     -- C-1, Rel Cld I.nRC (Snp 9: no new setup)
-    ∷ closes_by NoClosing (cell AtHardUnderway (calledIn AtSoftProceeding NamesIncumbent came_none))
+    ∷ closes_by NoClosing (cell AtHardUnderway (called_in AtSoftProceeding NamesIncumbent came_none))
     -- C-1, Rel Cld I.RC#4 and I.RC (Snp 5)
-    ∷ cell AtNull (calledIn AtSoftProceeding NamesIncumbent came4)
-    ∷ cell AtNull (calledIn AtSoftProceeding NamesIncumbent came_not4)
+    ∷ cell AtNull (called_in AtSoftProceeding NamesIncumbent came4)
+    ∷ cell AtNull (called_in AtSoftProceeding NamesIncumbent came_not4)
     ∷ []
 
 -- Soft Proceeding, for the rerouting connection: only crankback is asked for (decision 8)
 abbrev pub proceeding_rerouting : List Item
 proceeding_rerouting =
     -- 01, the row: at 65,535 as if none was found
-    goes_to AtIdle (closes_by NoClosing (about (in_both at_last_number (cranked_in AtSoftProceeding NamesRerouting came_any cranked_found))))
+    goes_to AtIdle
+        (closes_by NoClosing (about (in_both at_last_number (cranked_in AtSoftProceeding NamesRerouting came_any cranked_found))))
     -- D17-8: crankback is a setup on a new number, as 01's row says
-    ∷ goes_to AtSoftProceeding (setup_is_sent (about (in_both with_room (cranked_in AtSoftProceeding NamesRerouting came_any cranked_found))))
+    ∷ goes_to AtSoftProceeding
+        (setup_is_sent (about (in_both with_room (cranked_in AtSoftProceeding NamesRerouting came_any cranked_found))))
     -- D17-10
     ∷ goes_to AtIdle (about (cranked_in AtSoftProceeding NamesRerouting came_any cranked_lost))
     -- D17-11
@@ -416,57 +426,57 @@ initiated_incumbent =
     -- D18-6
     ∷ ended_with2 AtSoftInitiated
     -- D18-7: #21 is the Cause code, and no Rerouting cause stands beside it (decision 12)
-    ∷ goes_to AtHardWaiting (rerouting_gets turned_away (about (in_both hard_on (calledIn AtSoftInitiated NamesIncumbent came_none))))
+    ∷ goes_to AtHardWaiting (rerouting_gets turned_away (about (in_both hard_on (called_in AtSoftInitiated NamesIncumbent came_none))))
     -- C-1, Rel Cld I.nRC (Snp 22)
-    ∷ cell AtHardWaiting (calledIn AtSoftInitiated NamesIncumbent came_none)
+    ∷ cell AtHardWaiting (called_in AtSoftInitiated NamesIncumbent came_none)
     -- C-1, Rel Cld I.RC#4 and I.RC (Snp 5)
-    ∷ cell AtNull (calledIn AtSoftInitiated NamesIncumbent came4)
-    ∷ cell AtNull (calledIn AtSoftInitiated NamesIncumbent came_not4)
+    ∷ cell AtNull (called_in AtSoftInitiated NamesIncumbent came4)
+    ∷ cell AtNull (called_in AtSoftInitiated NamesIncumbent came_not4)
     ∷ []
 
 -- Soft Initiated, for the rerouting connection
 abbrev pub initiated_rerouting : List Item
 initiated_rerouting =
     -- D18-8
-    goes_to AtIdle (about (calledIn AtSoftInitiated NamesRerouting came_any))
+    goes_to AtIdle (about (called_in AtSoftInitiated NamesRerouting came_any))
     -- C-1, Rel Cld R.nRC and R.RC (Snp 11)
-    ∷ cell AtIdle (calledIn AtSoftInitiated NamesRerouting came_none)
-    ∷ cell AtIdle (calledIn AtSoftInitiated NamesRerouting came_some)
+    ∷ cell AtIdle (called_in AtSoftInitiated NamesRerouting came_none)
+    ∷ cell AtIdle (called_in AtSoftInitiated NamesRerouting came_some)
     ∷ []
 
 -- Awaiting, for the incumbent: hard is not asked for (decision 6)
 abbrev pub awaited_incumbent : List Item
 awaited_incumbent =
     -- D19-4: the number (decision 5)
-    goes_to AtNull (callingAndReroutingGet (with Says1) (about (calledIn AtAwaiting NamesIncumbent came1)))
+    goes_to AtNull (calling_and_rerouting_get (with Says1) (about (called_in AtAwaiting NamesIncumbent came1)))
     -- D19-5
-    ∷ goes_to AtNull (callingAndReroutingGet (with Says2) (about (calledIn AtAwaiting NamesIncumbent came_neither)))
+    ∷ goes_to AtNull (calling_and_rerouting_get (with Says2) (about (called_in AtAwaiting NamesIncumbent came_neither)))
     -- D19-6
-    ∷ goes_to AtIdle (switches_by true (about (calledIn AtAwaiting NamesIncumbent came_none)))
+    ∷ goes_to AtIdle (switches_by true (about (called_in AtAwaiting NamesIncumbent came_none)))
     -- D19-7
-    ∷ goes_to AtIdle (switches_by true (about (calledIn AtAwaiting NamesIncumbent came4)))
+    ∷ goes_to AtIdle (switches_by true (about (called_in AtAwaiting NamesIncumbent came4)))
     -- C-1, Rel Cld I.nRC and I.RC#4 (Snp 21)
-    ∷ switches_by true (cell AtIdle (calledIn AtAwaiting NamesIncumbent came_none))
-    ∷ switches_by true (cell AtIdle (calledIn AtAwaiting NamesIncumbent came4))
+    ∷ switches_by true (cell AtIdle (called_in AtAwaiting NamesIncumbent came_none))
+    ∷ switches_by true (cell AtIdle (called_in AtAwaiting NamesIncumbent came4))
     -- C-1, Rel Cld I.RC (Snp 5)
-    ∷ cell AtNull (calledIn AtAwaiting NamesIncumbent came_not4)
+    ∷ cell AtNull (called_in AtAwaiting NamesIncumbent came_not4)
     ∷ []
 
 -- Awaiting, for the rerouting connection: #4 is another cause there (decision 7)
 abbrev pub awaited_rerouting : List Item
 awaited_rerouting =
     -- 01's row with 6.2.4.8 case 5: the incumbent's own release has no Rerouting cause (decision 7)
-    incumbent_gets plainly (about (calledIn AtAwaiting NamesRerouting came_some))
+    incumbent_gets plainly (about (called_in AtAwaiting NamesRerouting came_some))
     -- D19-9: the number (decision 5)
-    ∷ goes_to AtNull (callingGets (with Says1) (about (calledIn AtAwaiting NamesRerouting came1)))
+    ∷ goes_to AtNull (calling_gets (with Says1) (about (called_in AtAwaiting NamesRerouting came1)))
     -- D19-10
-    ∷ goes_to AtNull (callingGets (with Says2) (about (calledIn AtAwaiting NamesRerouting came_not1)))
+    ∷ goes_to AtNull (calling_gets (with Says2) (about (called_in AtAwaiting NamesRerouting came_not1)))
     -- D19-11
-    ∷ goes_to AtIdle (switches_by false (about (calledIn AtAwaiting NamesRerouting came_none)))
+    ∷ goes_to AtIdle (switches_by false (about (called_in AtAwaiting NamesRerouting came_none)))
     -- C-1, Rel Cld R.nRC (Snp 11)
-    ∷ switches_by false (cell AtIdle (calledIn AtAwaiting NamesRerouting came_none))
+    ∷ switches_by false (cell AtIdle (called_in AtAwaiting NamesRerouting came_none))
     -- C-1, Rel Cld R.RC (Snp 7)
-    ∷ cell AtNull (calledIn AtAwaiting NamesRerouting came_some)
+    ∷ cell AtNull (called_in AtAwaiting NamesRerouting came_some)
     ∷ []
 
 abbrev pub called_releases : Phase → Role → List Item
@@ -495,9 +505,9 @@ items_on phase Expired = expiries
 abbrev pub departed_lost_paths : List Item
 departed_lost_paths =
     -- D21-1
-    goes_to AtNull (callingGets (with Says2) (about (happens_in FoundNone AtHardWaiting)))
+    goes_to AtNull (calling_gets (with Says2) (about (happens_in FoundNone AtHardWaiting)))
     -- C-1, No path (Snp 16)
-    ∷ callingGets (with Says2) (cell AtNull (happens_in FoundNone AtHardWaiting))
+    ∷ calling_gets (with Says2) (cell AtNull (happens_in FoundNone AtHardWaiting))
     ∷ []
 
 -- D25-5 where another switchover is asked for: 01, "Setup", tries #8 first
@@ -520,41 +530,45 @@ departed_setups AtAwaiting = departed_questions AtAwaiting ++ departed_older AtA
 
 -- #1 without modification, of a release for a connection (6.2.4.6 case 3, 6.2.4.8 case 5)
 abbrev pub unmodified1 : Phase → Role → Item
-unmodified1 phase named = goes_to AtNull (callingGets (with SaysAsCame) (about (calledIn phase named came1)))
+unmodified1 phase named = goes_to AtNull (calling_gets (with SaysAsCame) (about (called_in phase named came1)))
 
 -- D17-5 and D18-5, D17-6 and D18-6, where hard is off
 abbrev pub hard_off_with1 : Phase → Item
-hard_off_with1 phase = goes_to AtNull (callingAndReroutingGet (with Says1) (about (in_both hard_off (calledIn phase NamesIncumbent came1))))
+hard_off_with1 phase =
+    goes_to AtNull (calling_and_rerouting_get (with Says1) (about (in_both hard_off (called_in phase NamesIncumbent came1))))
 
 abbrev pub hard_off_with2 : Phase → Item
-hard_off_with2 phase = goes_to AtNull (callingAndReroutingGet (with Says2) (about (in_both hard_off (calledIn phase NamesIncumbent came_not1))))
+hard_off_with2 phase =
+    goes_to AtNull (calling_and_rerouting_get (with Says2) (about (in_both hard_off (called_in phase NamesIncumbent came_not1))))
 
 abbrev pub departed_called : Phase → List Item
 departed_called AtNull = []
 departed_called AtIdle =
     -- D14-5, the number: 6.2.4.2 case 3 forwards the element without modification (decision 5)
-    goes_to AtNull (callingGets (with Says1) (about (calledIn AtIdle NamesIncumbent came1)))
+    goes_to AtNull (calling_gets (with Says1) (about (called_in AtIdle NamesIncumbent came1)))
     ∷ []
 departed_called AtHardWaiting = []
 departed_called AtHardUnderway =
     -- D16-3, the number: 6.2.4.4 case 3 forwards the element without modification (decision 5)
-    goes_to AtNull (callingGets (with Says1) (about (calledIn AtHardUnderway NamesRerouting came1)))
+    goes_to AtNull (calling_gets (with Says1) (about (called_in AtHardUnderway NamesRerouting came1)))
     -- D16-5 and D16-8 at 65,535: 01, the retry counts as no path (decision 3)
-    ∷ goes_to AtHardUnderway (setup_is_sent (about (in_both at_last_number (cranked_in AtHardUnderway NamesRerouting came_none cranked_found))))
+    ∷ goes_to AtHardUnderway
+        (setup_is_sent (about (in_both at_last_number (cranked_in AtHardUnderway NamesRerouting came_none cranked_found))))
     ∷ goes_to AtHardWaiting (about (in_both at_last_number (cranked_in AtHardUnderway NamesRerouting came_none cranked_none)))
     -- C-1, note 1, where no path is found: 6.2.4.4 case 5, D16-7
     ∷ cell AtHardUnderway (cranked_in AtHardUnderway NamesRerouting came_none cranked_lost)
     ∷ []
 departed_called AtSoftTriggered =
     -- C-1, Rel Cld I.nRC (Snp 8): 6.2.4.5 to the letter (decision 1)
-    cell AtHardWaiting (calledIn AtSoftTriggered NamesIncumbent came_none)
+    cell AtHardWaiting (called_in AtSoftTriggered NamesIncumbent came_none)
     -- C-1, Rel Cld I.RC#4 and I.RC (Snp 4), the cause, "#1 or #2": neither (decision 1)
-    ∷ callingGets (with Says1) (cell AtNull (calledIn AtSoftTriggered NamesIncumbent came_some))
-    ∷ callingGets (with Says2) (cell AtNull (calledIn AtSoftTriggered NamesIncumbent came_some))
+    ∷ calling_gets (with Says1) (cell AtNull (called_in AtSoftTriggered NamesIncumbent came_some))
+    ∷ calling_gets (with Says2) (cell AtNull (called_in AtSoftTriggered NamesIncumbent came_some))
     ∷ []
 departed_called AtSoftProceeding =
     -- D17-8 at 65,535: 01, the row, as if none was found (decision 8)
-    goes_to AtSoftProceeding (setup_is_sent (about (in_both at_last_number (cranked_in AtSoftProceeding NamesRerouting came_any cranked_found))))
+    goes_to AtSoftProceeding
+        (setup_is_sent (about (in_both at_last_number (cranked_in AtSoftProceeding NamesRerouting came_any cranked_found))))
     -- C-1, note 1, where no path is found: 01, the row, "else Idle"; D17-10
     ∷ cell AtSoftProceeding (cranked_in AtSoftProceeding NamesRerouting came_none cranked_lost)
     -- C-1, Rel Cld R.RC (Snp 11), where one is found: 01, the row, does not ask for a cause (decision 8); D17-8
@@ -581,8 +595,8 @@ departed_called AtAwaiting =
 -- C-1, Rel Clg (Snp 0) in Soft Triggered, the cause, "#1 or #2": neither, where a cause came (decision 1)
 abbrev pub departed_calling : List Item
 departed_calling =
-    incumbent_gets (with Says1) (cell AtNull (callingIn AtSoftTriggered came_some))
-    ∷ incumbent_gets (with Says2) (cell AtNull (callingIn AtSoftTriggered came_some))
+    incumbent_gets (with Says1) (cell AtNull (calling_in AtSoftTriggered came_some))
+    ∷ incumbent_gets (with Says2) (cell AtNull (calling_in AtSoftTriggered came_some))
     ∷ []
 
 abbrev pub departed_on : Phase → Happening → List Item

@@ -30,7 +30,7 @@ use Rattle.events.specs.declared.Node.{Node}
 use Rattle.events.specs.declared.Node.TheVariants.{Source, Destination}
 use Rattle.trace_run.specs.Run.{on_request, shown_of}
 use Rattle.trace_run.specs.declared.Stop.{Stop}
-use Rattle.trace_run.specs.contracts.run as the-run
+use Rattle.trace_run.specs.contracts.run as the_run
 
 -- something that is lent; where it stands says nothing here
 abbrev lent : {X : Type 0} → X → Bor X
@@ -56,7 +56,7 @@ module _ {M : Type 1} {𝓤 : Ura M} (𝓛 : Logic 𝓤) (memory : Memory → SP
   -- run: of an end, a table, octets, a buffer, the columns and a count, how far the run has come, and what is left in the buffer
   abbrev run_at_shuts_out : Node → List Call → List ℕ → List ℕ → Columns → ℕ → Stop → List ℕ → Type 1
   run_at_shuts_out node table input out columns start r left =
-      (κs : Lfts 2) → NeverHolds ((the-run.clauses 𝓛 memory run κs (node, (table, (lent input, (lent_mut out, (columns, (start, tt))))))
+      (κs : Lfts 2) → NeverHolds ((the_run.clauses 𝓛 memory run κs (node, (table, (lent input, (lent_mut out, (columns, (start, tt))))))
       ).ensures tt r (node, (table, (lent input, (lent_mut left, (columns, (start, tt)))))))
 
   abbrev run_shuts_out : List Call → List ℕ → List ℕ → Columns → ℕ → Stop → List ℕ → Type 1

@@ -25,7 +25,8 @@ whole_run node w octets = chunk_of node w octets (replicate 64 emptied) 0
 -- all that is printed of an input: the first line, the lines of the run, and `bad` for a last record that is cut short
 unfoldable pub printed_of : Node → Columns → List ℕ → List ℕ
 printed_of node w octets =
-    first_line w ++ ((whole_run node w octets).text ++ cond ((whole_run node w octets).good && not (eqb (length octets % 16) 0)) bad_line [])
+    first_line w ++ ((whole_run node w octets).text
+    ++ cond ((whole_run node w octets).good && not (eqb (length octets % 16) 0)) bad_line [])
 
 -- B1 to B4 as records: open key 7 with hard and symmetric soft, setup with clearing and number 3, ready, the setup again
 abbrev pub first_four : List ℕ

@@ -1,5 +1,6 @@
 -- The record that an opening or event goes to, found among the keys of the table, and what comes of it. 102 to 105 are decided by
--- admission, as over a lent row; proofs/Placed.antt says that all of it is what `ran_of` and `table_of` say of a fit table. Assumes nothing.
+-- admission, as over a lent row; proofs/Placed.antt says that all of it is what `ran_of` and `table_of` say of a fit table.
+-- Assumes nothing.
 use Rattle.std.specs.Prelude.{ℕ, suc, ◌+◌, ◌≤◌, Bool, cond, false, true, List, [], ◌∷◌, map, ◌≡◌, eqb, ltb}
 use Rattle.lines.specs.Lines.{page, put_text}
 use Rattle.signal.specs.declared.Answer.{Answer}

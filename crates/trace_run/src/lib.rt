@@ -7,7 +7,8 @@
 ghost use Rattle.std.specs.Prelude.{◌+◌, ◌≤◌, ◌<◌, ◌^◌, true, ◌≡◌, length};
 ghost use Rattle.call_table.specs.Fit.{fit_table};
 ghost use Rattle.trace_run.specs.Run.{chunk_of};
-ghost use Rattle.trace_run.specs.Placed.{keys_in, index_of, place_for, refused_with, carried_on, worked_on, unplaced_for, stopped_at, Stops};
+ghost use Rattle.trace_run.specs.Placed.{keys_in, index_of, place_for, refused_with, carried_on};
+ghost use Rattle.trace_run.specs.Placed.{worked_on, unplaced_for, stopped_at, Stops};
 
 use admission::Admission;
 use call::{Call, Outcome};
