@@ -123,7 +123,7 @@ bench_shown others =
     ∷ bench_after others 0 (timer_start ∷ []) (HardProceeding 5) 5 6
     -- B16
     ∷ bench_ended others
-        (release_of CallingRelease 0 (Numbered not_recovered) ∷ release_of ReroutingRelease 5 (Numbered not_recovered) ∷ [])
+    (release_of CallingRelease 0 (Numbered not_recovered) ∷ release_of ReroutingRelease 5 (Numbered not_recovered) ∷ [])
     ∷ []
 
 -- the statement, for a row of one record and `more` beside it

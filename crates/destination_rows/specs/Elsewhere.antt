@@ -429,10 +429,10 @@ abbrev pub soft_proceeding_rerouting : List Item
 soft_proceeding_rerouting =
     -- a retry at 65,535 is as if none was found (decision 69)
     goes_to AtIdle
-        (closes_by NoClosing (about (in_both at_last_number (cranked_in AtSoftProceeding NamesRerouting came_any cranked_found))))
+    (closes_by NoClosing (about (in_both at_last_number (cranked_in AtSoftProceeding NamesRerouting came_any cranked_found))))
     -- D34-8: crankback is a setup on a new number (decision 69)
     ∷ goes_to AtSoftProceeding
-        (setup_is_sent (about (in_both with_room (cranked_in AtSoftProceeding NamesRerouting came_any cranked_found))))
+    (setup_is_sent (about (in_both with_room (cranked_in AtSoftProceeding NamesRerouting came_any cranked_found))))
     -- D34-10
     ∷ goes_to AtIdle (about (cranked_in AtSoftProceeding NamesRerouting came_any cranked_lost))
     -- D34-11
@@ -587,7 +587,7 @@ departed_calling_releases AtSoftProceeding =
     numbered1 AtSoftProceeding NamesIncumbent
     -- D34-8 at 65,535: as if none was found (decision 69)
     ∷ goes_to AtSoftProceeding
-        (setup_is_sent (about (in_both at_last_number (cranked_in AtSoftProceeding NamesRerouting came_any cranked_found))))
+    (setup_is_sent (about (in_both at_last_number (cranked_in AtSoftProceeding NamesRerouting came_any cranked_found))))
     -- C-3, note 3, where no path is found: 6.3.4.8 case 6, D34-10 (decision 75)
     ∷ cell AtSoftProceeding (cranked_in AtSoftProceeding NamesRerouting came_none cranked_lost)
     -- C-3, Rel Clg R.RC (Dnp 12), where one is found: 6.3.4.8 case 5 does not ask for a cause, nor does D34-8 (decisions 69 and 75)

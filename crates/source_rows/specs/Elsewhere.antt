@@ -342,9 +342,9 @@ abbrev pub called_in_hard_proceeding : List Item
 called_in_hard_proceeding =
     -- 01, the last sentence on releases: a retry at 65,535 is no path, so 6.2.4.4 case 5 (decision 3)
     goes_to AtNull
-        (calling_gets (with Says2) (about (in_both at_last_number (cranked_in AtHardUnderway NamesRerouting came_none cranked_found))))
+    (calling_gets (with Says2) (about (in_both at_last_number (cranked_in AtHardUnderway NamesRerouting came_none cranked_found))))
     ∷ goes_to AtNull
-        (calling_gets (with Says2) (about (in_both at_last_number (cranked_in AtHardUnderway NamesRerouting came_none cranked_none))))
+    (calling_gets (with Says2) (about (in_both at_last_number (cranked_in AtHardUnderway NamesRerouting came_none cranked_none))))
     -- 6.2.4.4 case 3: #1 goes on without modification (decision 5)
     ∷ goes_to AtNull (calling_gets (with SaysAsCame) (about (called_in AtHardUnderway NamesRerouting came1)))
     -- D16-3: the state
@@ -398,10 +398,10 @@ abbrev pub proceeding_rerouting : List Item
 proceeding_rerouting =
     -- 01, the row: at 65,535 as if none was found
     goes_to AtIdle
-        (closes_by NoClosing (about (in_both at_last_number (cranked_in AtSoftProceeding NamesRerouting came_any cranked_found))))
+    (closes_by NoClosing (about (in_both at_last_number (cranked_in AtSoftProceeding NamesRerouting came_any cranked_found))))
     -- D17-8: crankback is a setup on a new number, as 01's row says
     ∷ goes_to AtSoftProceeding
-        (setup_is_sent (about (in_both with_room (cranked_in AtSoftProceeding NamesRerouting came_any cranked_found))))
+    (setup_is_sent (about (in_both with_room (cranked_in AtSoftProceeding NamesRerouting came_any cranked_found))))
     -- D17-10
     ∷ goes_to AtIdle (about (cranked_in AtSoftProceeding NamesRerouting came_any cranked_lost))
     -- D17-11
@@ -553,7 +553,7 @@ departed_called AtHardUnderway =
     goes_to AtNull (calling_gets (with Says1) (about (called_in AtHardUnderway NamesRerouting came1)))
     -- D16-5 and D16-8 at 65,535: 01, the retry counts as no path (decision 3)
     ∷ goes_to AtHardUnderway
-        (setup_is_sent (about (in_both at_last_number (cranked_in AtHardUnderway NamesRerouting came_none cranked_found))))
+    (setup_is_sent (about (in_both at_last_number (cranked_in AtHardUnderway NamesRerouting came_none cranked_found))))
     ∷ goes_to AtHardWaiting (about (in_both at_last_number (cranked_in AtHardUnderway NamesRerouting came_none cranked_none)))
     -- C-1, note 1, where no path is found: 6.2.4.4 case 5, D16-7
     ∷ cell AtHardUnderway (cranked_in AtHardUnderway NamesRerouting came_none cranked_lost)
@@ -568,7 +568,7 @@ departed_called AtSoftTriggered =
 departed_called AtSoftProceeding =
     -- D17-8 at 65,535: 01, the row, as if none was found (decision 8)
     goes_to AtSoftProceeding
-        (setup_is_sent (about (in_both at_last_number (cranked_in AtSoftProceeding NamesRerouting came_any cranked_found))))
+    (setup_is_sent (about (in_both at_last_number (cranked_in AtSoftProceeding NamesRerouting came_any cranked_found))))
     -- C-1, note 1, where no path is found: 01, the row, "else Idle"; D17-10
     ∷ cell AtSoftProceeding (cranked_in AtSoftProceeding NamesRerouting came_none cranked_lost)
     -- C-1, Rel Cld R.RC (Snp 11), where one is found: 01, the row, does not ask for a cause (decision 8); D17-8
