@@ -11,7 +11,8 @@ use Rattle.lent.specs.Search.{read_from, read_until}
 
 -- read to the end: where there is an element at i, and at the end
 module _ {X Y : Type 0} (step : Y → ℕ → X → Y) (ys : List X) (i : ℕ) (v : Y) where
-  pub next_at : (d : X) → i < length ys → read_from step i v (drop i ys) ≡ read_from step (i + 1) (step v i (get_or ys i d)) (drop (i + 1) ys)
+  pub next_at : (d : X) → i < length ys →
+      read_from step i v (drop i ys) ≡ read_from step (i + 1) (step v i (get_or ys i d)) (drop (i + 1) ys)
   unfolding read_from
   next_at d l =
       ap (read_from step i v) (drop-cons ys i d l)

@@ -9,6 +9,7 @@ use Rattle.call_table.proofs.handle_fit.Goals as goal
 pub returns : goal.returns
 returns c =
     let half = half_of c.args.asked.node in
+    let is = enough_is_read half c.args.t.now c.args.key c.args.asked.act in
     let e : c.decide_at-d.result ≡ ran_fit_of half c.args.t.now c.args.key c.args.asked.act =
-    rw (c.decide_at-d.ensures, c.fetch-f.ensures, c.needed-at.ensures, c.look-s.ensures) (enough_is_read half c.args.t.now c.args.key c.args.asked.act) in
+    rw (c.decide_at-d.ensures, c.fetch-f.ensures, c.needed-at.ensures, c.look-s.ensures) is in
     (ap (λ (d : Ran). d.done) e, rw (c.put.ensures, e))

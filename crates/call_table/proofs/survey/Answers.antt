@@ -12,13 +12,15 @@ pub loop-i-preserved : goal.loop-i-preserved
 loop-i-preserved c =
     let key = c.args.key in
     let ys = c.args.t.now in
+    let ks = c.loop-i.keys in
     let i = c.loop-i.i in
-    let l = c.loop-i-test.true in (
+    let l = c.loop-i-test.true in
+    let kept = c.loop-i.invariant.2 in (
       omega arith,
       rw c.step-s.ensures (sym (next_at (λ s i c. step_of s key i c) ys i c.loop-i.s _ l) ∙ c.loop-i.invariant.1),
       elim c.if-i-keys.branch [
-        | then-i-keys w ↦ rw w.keys-is (sym (key_at (λ (c : Call). c.key) c.loop-i.keys ys i _ l) ∙ c.loop-i.invariant.2)
-        | else-i-keys w ↦ rw w.keys-is (sym (key_past (λ (c : Call). c.key) c.loop-i.keys ys i emptied l w.if-i-keys.false) ∙ c.loop-i.invariant.2)
+        | then-i-keys w ↦ rw w.keys-is (sym (key_at (λ (c : Call). c.key) ks ys i _ l) ∙ kept)
+        | else-i-keys w ↦ rw w.keys-is (sym (key_past (λ (c : Call). c.key) ks ys i emptied l w.if-i-keys.false) ∙ kept)
       ],
     )
 
