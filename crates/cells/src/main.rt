@@ -3,6 +3,6 @@
 
 use events::Node;
 
-fn main() {
-    cells_feed::serve(Node::Source);
+fn main(rt: HostRuntime) {
+    cells_feed::serve(rt, Node::Source);
 }

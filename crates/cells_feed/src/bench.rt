@@ -5,17 +5,19 @@ use events::{Act, Event, Node};
 use lines::{put_byte, put_number, put_word};
 use rows::State;
 use signal::{Crankback, ReceivedCause, ReroutingCause, Services, Soft, Switchover, Wanted};
+use std::io::Stdout;
 
-// A run so far, at one end: the call after its last event, and whether every line was written.
+// A run so far, at one end: where its lines go, the call after its last event, and whether every line was written.
 #[derive(Clone, Copy)]
 struct Run {
+    stdout: Stdout,
     node: Node,
     call: Call,
     written: bool,
 }
 
-pub(crate) fn print_run(node: Node) -> bool {
-    let begun = begin(node);
+pub(crate) fn print_run(stdout: Stdout, node: Node) -> bool {
+    let begun = begin(stdout, node);
     let ended = match node {
         Node::Source => lose_incumbent(reroute(answer_setups(begun))),
         Node::Destination => lose_call(move_once(move_soft(move_hard(begun)))),
@@ -24,7 +26,7 @@ pub(crate) fn print_run(node: Node) -> bool {
 }
 
 // B1, step 1
-fn begin(node: Node) -> Run {
+fn begin(stdout: Stdout, node: Node) -> Run {
     let wanted = Wanted::Named(Services {
         hard: true,
         soft: Soft::Symmetric,
@@ -32,7 +34,7 @@ fn begin(node: Node) -> Run {
     let mut line = [0u8; 256];
     let mut place = put_label(&mut line, node, 1);
     place = event_words::put_event(&mut line, place, node, 7, Act::Opens(wanted));
-    finish(&mut line, place, node, Call::opened(7, wanted))
+    finish(stdout, &mut line, place, node, Call::opened(7, wanted))
 }
 
 // B2 to B9: the neighbour reroutes, and a release comes late.
@@ -111,12 +113,13 @@ impl Run {
         if !written {
             return self;
         }
+        let stdout = self.stdout;
         let node = self.node;
         let call = self.call;
         let mut line = [0u8; 256];
         let mut place = put_label(&mut line, node, number);
         place = event_words::put_keyless(&mut line, place, node, event);
-        finish(&mut line, place, node, call.handle(node, event))
+        finish(stdout, &mut line, place, node, call.handle(node, event))
     }
 }
 
@@ -135,7 +138,7 @@ fn put_kind(line: &mut [u8], at: usize, node: Node) -> usize {
 }
 
 // Ends a step's line with its outcome, and writes it.
-fn finish(line: &mut [u8], at: usize, node: Node, outcome: Outcome) -> Run {
+fn finish(stdout: Stdout, line: &mut [u8], at: usize, node: Node, outcome: Outcome) -> Run {
     let answer = outcome.answer;
     let call = outcome.call;
     let signals = outcome.signals;
@@ -145,8 +148,9 @@ fn finish(line: &mut [u8], at: usize, node: Node, outcome: Outcome) -> Run {
     place = put_after(line, place, node, call);
     place = put_bar(line, place);
     place = signal_words::put_signals(line, place, signals);
-    let written = write_line(line, place);
+    let written = write_line(stdout, line, place);
     Run {
+        stdout: stdout,
         node: node,
         call: call,
         written: written,

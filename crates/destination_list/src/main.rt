@@ -3,6 +3,6 @@
 
 use events::Node;
 
-fn main() {
-    list_feed::serve(Node::Destination);
+fn main(rt: HostRuntime) {
+    list_feed::serve(rt, Node::Destination);
 }

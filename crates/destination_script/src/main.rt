@@ -3,6 +3,6 @@
 
 use events::Node;
 
-fn main() {
-    script_feed::serve(Node::Destination);
+fn main(rt: HostRuntime) {
+    script_feed::serve(rt, Node::Destination);
 }

@@ -5,44 +5,46 @@
 
 mod print;
 
-use libc::STDIN_FILENO;
 use signal::{CauseCode, Kind, ReroutingCause, SentCause, Signal};
+use std::io::{Stdin, Stdout};
 
 // A loop has to end, and nothing says that the input does: so the turns are counted down, from a number that no run uses up.
-fn main() {
-    let mut received = io::large_buffer();
-    let mut own = io::large_buffer();
+fn main(rt: HostRuntime) {
+    let stdin = rt.stdin();
+    let stdout = rt.stdout();
+    let mut received = streams::large_buffer();
+    let mut own = streams::large_buffer();
     let mut turns = u64::MAX;
-    while turns > 0 && answer(&mut received, &mut own) {
+    while turns > 0 && answer(stdin, stdout, &mut received, &mut own) {
         turns -= 1;
     }
 }
 
 // Reads a case, and prints its line. False where nothing more is to be read: at the end of the input, at a case that is bad, and where a
 // write fails.
-fn answer(received: &mut [u8], own: &mut [u8]) -> bool {
+fn answer(mut stdin: Stdin, stdout: Stdout, received: &mut [u8], own: &mut [u8]) -> bool {
     let mut head = [0u8; 5];
-    let got = io::read_full(STDIN_FILENO, &mut head);
+    let got = streams::read_full(&mut stdin, &mut head);
     if got == 0 {
         return false;
     }
     if got < 5 || 10 < head[0] || 2 < head[1] {
-        return print::bad();
+        return print::bad(stdout);
     }
     let count = length(head[3], head[4]);
-    if !came(received, count) {
-        return print::bad();
+    if !came(stdin, received, count) {
+        return print::bad(stdout);
     }
     let mut next = [0u8; 2];
-    if io::read_full(STDIN_FILENO, &mut next) < 2 {
-        return print::bad();
+    if streams::read_full(&mut stdin, &mut next) < 2 {
+        return print::bad(stdout);
     }
     let more = length(next[0], next[1]);
-    if !came(own, more) {
-        return print::bad();
+    if !came(stdin, own, more) {
+        return print::bad(stdout);
     }
     let signal = signal(head[0], head[1], head[2]);
-    show(received, count, own, more, signal)
+    show(stdout, received, count, own, more, signal)
 }
 
 // Two octets, big-endian.
@@ -51,17 +53,24 @@ fn length(high: u8, low: u8) -> usize {
 }
 
 // So many octets, whole.
-fn came(string: &mut [u8], count: usize) -> bool {
+fn came(mut stdin: Stdin, string: &mut [u8], count: usize) -> bool {
     if count <= string.len() {
-        return io::read_full(STDIN_FILENO, &mut string[..count]) == count;
+        return streams::read_full(&mut stdin, &mut string[..count]) == count;
     }
     false
 }
 
-fn show<'a>(received: &'a [u8], count: usize, own: &'a [u8], more: usize, signal: Signal) -> bool {
+fn show<'a>(
+    stdout: Stdout,
+    received: &'a [u8],
+    count: usize,
+    own: &'a [u8],
+    more: usize,
+    signal: Signal,
+) -> bool {
     if count <= received.len() && more <= own.len() {
         let part = cause_element::element(&received[..count], &own[..more], signal);
-        return print::part(cause_element::named(signal), part);
+        return print::part(stdout, cause_element::named(signal), part);
     }
     false
 }

@@ -1,16 +1,16 @@
 // A line for a case (docs/ELEMENTS.md, "What is printed").
 use cause_element::Names;
-use libc::STDOUT_FILENO;
 use lines::{put_byte, put_number, put_word};
+use std::io::Stdout;
 
-pub(crate) fn bad() -> bool {
-    io::write_all(STDOUT_FILENO, b"bad\n");
+pub(crate) fn bad(mut stdout: Stdout) -> bool {
+    streams::write_all(&mut stdout, b"bad\n");
     false
 }
 
 // The string that the part is of, its length, and its octets. False where a write fails.
-pub(crate) fn part(string: Names, octets: &[u8]) -> bool {
-    let mut out = io::buffer();
+pub(crate) fn part(stdout: Stdout, string: Names, octets: &[u8]) -> bool {
+    let mut out = streams::buffer();
     let mut at = put_name(&mut out, string);
     at = put_number(&mut out, at, octets.len() as u64);
     at = put_byte(&mut out, at, b' ');
@@ -18,7 +18,7 @@ pub(crate) fn part(string: Names, octets: &[u8]) -> bool {
     while index < octets.len() {
         at = put_octet(&mut out, at, octets[index]);
         if 4000 < at {
-            if !write_first(&out, at) {
+            if !write_first(stdout, &out, at) {
                 return false;
             }
             at = 0;
@@ -26,7 +26,7 @@ pub(crate) fn part(string: Names, octets: &[u8]) -> bool {
         index += 1;
     }
     at = put_byte(&mut out, at, b'\n');
-    write_first(&out, at)
+    write_first(stdout, &out, at)
 }
 
 fn put_name(out: &mut [u8], string: Names) -> usize {
@@ -55,9 +55,9 @@ fn digit(number: u8) -> u8 {
 }
 
 // The first octets of a buffer; one that is full may have been cut, which counts as a failure.
-fn write_first(out: &[u8], length: usize) -> bool {
+fn write_first(mut stdout: Stdout, out: &[u8], length: usize) -> bool {
     if length < out.len() {
-        return io::write_all(STDOUT_FILENO, &out[0..length]);
+        return streams::write_all(&mut stdout, &out[0..length]);
     }
     false
 }

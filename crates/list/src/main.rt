@@ -3,6 +3,6 @@
 
 use events::Node;
 
-fn main() {
-    list_feed::serve(Node::Source);
+fn main(rt: HostRuntime) {
+    list_feed::serve(rt, Node::Source);
 }

@@ -3,6 +3,6 @@
 
 use events::Node;
 
-fn main() {
-    script_feed::serve(Node::Source);
+fn main(rt: HostRuntime) {
+    script_feed::serve(rt, Node::Source);
 }

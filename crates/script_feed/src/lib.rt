@@ -8,8 +8,8 @@
 mod print;
 
 use events::Node;
-use libc::STDIN_FILENO;
 use script_line::Parsed;
+use std::io::{Stderr, Stdin, Stdout};
 
 // How far the reading has come.
 #[derive(Clone, Copy)]
@@ -25,10 +25,13 @@ struct Progress {
 }
 
 // A loop has to end, and nothing says that the input does: so the turns are counted down, from a number that no run uses up.
-pub fn serve(node: Node) {
-    let mut input = io::large_buffer();
-    let mut line = io::buffer();
-    let mut records = io::buffer();
+pub fn serve(rt: HostRuntime, node: Node) {
+    let stdin = rt.stdin();
+    let stdout = rt.stdout();
+    let stderr = rt.stderr();
+    let mut input = streams::large_buffer();
+    let mut line = streams::buffer();
+    let mut records = streams::buffer();
     let mut progress = Progress {
         going: true,
         number: 1,
@@ -38,40 +41,52 @@ pub fn serve(node: Node) {
     };
     let mut turns = u64::MAX;
     while turns > 0 && progress.going {
-        progress = turn(node, &mut input, &mut line, &mut records, progress);
+        progress = turn(
+            stdin,
+            stdout,
+            stderr,
+            node,
+            &mut input,
+            &mut line,
+            &mut records,
+            progress,
+        );
         turns -= 1;
     }
 }
 
 // One read. Every line that it ends is written before the next.
 fn turn(
+    mut stdin: Stdin,
+    stdout: Stdout,
+    stderr: Stderr,
     node: Node,
     input: &mut [u8],
     line: &mut [u8],
     records: &mut [u8],
     before: Progress,
 ) -> Progress {
-    let got = libc::read(STDIN_FILENO, input);
-    if got < 0 {
-        print::reading_fails(node);
+    let Some(count) = streams::read_some(&mut stdin, input) else {
+        print::reading_fails(stderr, node);
         return before.stopped();
-    }
-    let count = io::count(got, input);
+    };
     if count == 0 {
-        return line_end(node, line, records, before)
-            .written(node, records)
+        return line_end(stdout, stderr, node, line, records, before)
+            .written(stdout, stderr, node, records)
             .stopped();
     }
     let mut progress = before;
     let mut index: usize = 0;
     while index < count && progress.going {
-        progress = octet(node, line, records, progress, input[index]);
+        progress = octet(stdout, stderr, node, line, records, progress, input[index]);
         index += 1;
     }
-    progress.written(node, records)
+    progress.written(stdout, stderr, node, records)
 }
 
 fn octet(
+    stdout: Stdout,
+    stderr: Stderr,
     node: Node,
     line: &mut [u8],
     records: &mut [u8],
@@ -80,7 +95,7 @@ fn octet(
 ) -> Progress {
     let length = progress.length;
     if octet == b'\n' {
-        return line_end(node, line, records, progress);
+        return line_end(stdout, stderr, node, line, records, progress);
     }
     if progress.comment {
         return progress;
@@ -93,6 +108,8 @@ fn octet(
         return progress.longer();
     }
     print::too_long(
+        stdout,
+        stderr,
         node,
         print::first(records, progress.waiting),
         progress.number,
@@ -101,7 +118,14 @@ fn octet(
 }
 
 // The end of a line, or of the input: the line's record, where it names an event.
-fn line_end(node: Node, line: &[u8], records: &mut [u8], progress: Progress) -> Progress {
+fn line_end(
+    stdout: Stdout,
+    stderr: Stderr,
+    node: Node,
+    line: &[u8],
+    records: &mut [u8],
+    progress: Progress,
+) -> Progress {
     let waiting = progress.waiting;
     let parsed = script_line::parse(node, print::first(line, progress.length));
     match parsed {
@@ -109,10 +133,19 @@ fn line_end(node: Node, line: &[u8], records: &mut [u8], progress: Progress) -> 
         Parsed::Told(key, act) => {
             let record = event_record::encode(node, key, act);
             let place = lines::put_word(records, waiting, &record);
-            progress.next(place).written_if_full(node, records)
+            progress
+                .next(place)
+                .written_if_full(stdout, stderr, node, records)
         }
         Parsed::Expected(what) => {
-            print::expected(node, print::first(records, waiting), progress.number, what);
+            print::expected(
+                stdout,
+                stderr,
+                node,
+                print::first(records, waiting),
+                progress.number,
+                what,
+            );
             progress.stopped()
         }
     }
@@ -143,16 +176,16 @@ impl Progress {
     }
 
     // Room for a record is left where this does not write.
-    fn written_if_full(self, node: Node, records: &[u8]) -> Self {
+    fn written_if_full(self, stdout: Stdout, stderr: Stderr, node: Node, records: &[u8]) -> Self {
         if 4000 < self.waiting {
-            return self.written(node, records);
+            return self.written(stdout, stderr, node, records);
         }
         self
     }
 
-    fn written(mut self, node: Node, records: &[u8]) -> Self {
+    fn written(mut self, stdout: Stdout, stderr: Stderr, node: Node, records: &[u8]) -> Self {
         if self.going {
-            self.going = print::write(node, print::first(records, self.waiting));
+            self.going = print::write(stdout, stderr, node, print::first(records, self.waiting));
             self.waiting = 0;
         }
         self

@@ -4,9 +4,9 @@ ghost use Rattle.lines.specs.Lines.{page, put_text};
 ghost use Rattle.script_feed.specs.Complaint.{script_name, complaint_start, complaint_text, too_long_text};
 
 use events::Node;
-use libc::{STDERR_FILENO, STDOUT_FILENO};
 use lines::{put_number, put_word};
 use script_words::{What, put_what};
+use std::io::{Stderr, Stdout};
 
 // The first octets; all, where there are not more.
 pub(crate) fn first(octets: &[u8], length: usize) -> &[u8]
@@ -28,47 +28,60 @@ fn put_name(out: &mut [u8], at: usize, node: Node) -> usize
     }
 }
 
-fn complain(node: Node, what: &[u8]) {
-    let mut out = io::buffer();
+fn complain(mut stderr: Stderr, node: Node, what: &[u8]) {
+    let mut out = streams::buffer();
     let named = put_name(&mut out, 0, node);
     let length = put_word(&mut out, named, what);
-    io::write_all(STDERR_FILENO, first(&out, length));
+    streams::write_all(&mut stderr, first(&out, length));
 }
 
 // False where that fails, which is told.
-pub(crate) fn write(node: Node, records: &[u8]) -> bool {
-    if io::write_all(STDOUT_FILENO, records) {
+pub(crate) fn write(mut stdout: Stdout, stderr: Stderr, node: Node, records: &[u8]) -> bool {
+    if streams::write_all(&mut stdout, records) {
         return true;
     }
-    complain(node, b": writing fails\n");
+    complain(stderr, node, b": writing fails\n");
     false
 }
 
-pub(crate) fn reading_fails(node: Node) {
-    complain(node, b": reading fails\n");
+pub(crate) fn reading_fails(stderr: Stderr, node: Node) {
+    complain(stderr, node, b": reading fails\n");
 }
 
 // The records before the line, and an octet that no record starts with.
-fn broken_off(node: Node, records: &[u8]) -> bool {
-    if write(node, records) {
-        return write(node, b"\xff");
+fn broken_off(stdout: Stdout, stderr: Stderr, node: Node, records: &[u8]) -> bool {
+    if write(stdout, stderr, node, records) {
+        return write(stdout, stderr, node, b"\xff");
     }
     false
 }
 
-pub(crate) fn too_long(node: Node, records: &[u8], number: u64) {
-    if broken_off(node, records) {
-        let mut out = io::buffer();
+pub(crate) fn too_long(
+    stdout: Stdout,
+    mut stderr: Stderr,
+    node: Node,
+    records: &[u8],
+    number: u64,
+) {
+    if broken_off(stdout, stderr, node, records) {
+        let mut out = streams::buffer();
         let length = put_too_long(&mut out, 0, node, number);
-        io::write_all(STDERR_FILENO, first(&out, length));
+        streams::write_all(&mut stderr, first(&out, length));
     }
 }
 
-pub(crate) fn expected(node: Node, records: &[u8], number: u64, what: What) {
-    if broken_off(node, records) {
-        let mut out = io::buffer();
+pub(crate) fn expected(
+    stdout: Stdout,
+    mut stderr: Stderr,
+    node: Node,
+    records: &[u8],
+    number: u64,
+    what: What,
+) {
+    if broken_off(stdout, stderr, node, records) {
+        let mut out = streams::buffer();
         let length = put_expected(&mut out, 0, node, number, what);
-        io::write_all(STDERR_FILENO, first(&out, length));
+        streams::write_all(&mut stderr, first(&out, length));
     }
 }
 

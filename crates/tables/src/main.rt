@@ -3,6 +3,6 @@
 
 use events::Node;
 
-fn main() {
-    tables_feed::serve(Node::Source);
+fn main(rt: HostRuntime) {
+    tables_feed::serve(rt, Node::Source);
 }

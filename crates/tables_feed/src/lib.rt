@@ -14,65 +14,82 @@ ghost use Rattle.std.specs.Prelude.{◌+◌, ◌*◌, ◌≤◌, length};
 
 use event_record::Request;
 use events::{Node, NodeAct};
-use libc::STDIN_FILENO;
+use std::io::{Stdin, Stdout};
 
 // Added to the count of a case whose table is not to be checked.
 const UNCHECKED: usize = 32768;
 
 // A loop has to end, and nothing says that the input does: so the cases are counted, up to a number that no run reaches.
-pub fn serve(node: Node) {
-    let mut body = io::large_buffer();
+pub fn serve(rt: HostRuntime, node: Node) {
+    let stdin = rt.stdin();
+    let stdout = rt.stdout();
+    let mut body = streams::large_buffer();
     let mut number: u64 = 1;
-    while number < u64::MAX && answer(node, number, &mut body) {
+    while number < u64::MAX && answer(stdin, stdout, node, number, &mut body) {
         number += 1;
     }
 }
 
 // Reads a case, and prints what becomes of it. False where nothing more is to be read: at the end of the input, at a case that is bad, and
 // where a write fails.
-fn answer(node: Node, number: u64, body: &mut [u8]) -> bool {
+fn answer(mut stdin: Stdin, stdout: Stdout, node: Node, number: u64, body: &mut [u8]) -> bool {
     let mut head = [0u8; 2];
-    let got = io::read_full(STDIN_FILENO, &mut head);
+    let got = streams::read_full(&mut stdin, &mut head);
     if got == 0 {
         return false;
     }
     let said = octets::short(&head, 0) as usize;
     let count = said % UNCHECKED;
     if got < 2 || 1100 < count {
-        return print::bad();
+        return print::bad(stdout);
     }
-    answer_rest(node, number, said < UNCHECKED, count, body)
+    answer_rest(stdin, stdout, node, number, said < UNCHECKED, count, body)
 }
 
 // The rest of a case: its records and its event, whole.
-fn answer_rest(node: Node, number: u64, checked: bool, count: usize, body: &mut [u8]) -> bool
+fn answer_rest(
+    mut stdin: Stdin,
+    stdout: Stdout,
+    node: Node,
+    number: u64,
+    checked: bool,
+    count: usize,
+    body: &mut [u8],
+) -> bool
     requires { count ≤ 1100 }
 {
     let size = count * 20 + 16;
     if body.len() < size {
-        return print::bad();
+        return print::bad(stdout);
     }
-    if io::read_full(STDIN_FILENO, &mut body[..size]) < size {
-        return print::bad();
+    if streams::read_full(&mut stdin, &mut body[..size]) < size {
+        return print::bad(stdout);
     }
-    answer_body(node, number, checked, count, body)
+    answer_body(stdout, node, number, checked, count, body)
 }
 
-fn answer_body(node: Node, number: u64, checked: bool, count: usize, body: &[u8]) -> bool
+fn answer_body(
+    stdout: Stdout,
+    node: Node,
+    number: u64,
+    checked: bool,
+    count: usize,
+    body: &[u8],
+) -> bool
     requires { (count ≤ 1100) × (count * 20 + 16 ≤ length body.now) }
 {
     let records = octets::records(body, count);
     let table = records.table;
     let event = event_record::decode(node, event_record::record_at(body, count * 20));
     if !records.named {
-        return print::bad();
+        return print::bad(stdout);
     }
     let request = event.request;
     match request {
-        Request::Bad => print::bad(),
+        Request::Bad => print::bad(stdout),
         Request::Asks(act) => {
             let held = first::handle(checked, table, count, event.key, NodeAct { node, act });
-            print::table(number, count, held)
+            print::table(stdout, number, count, held)
         }
     }
 }

@@ -3,38 +3,38 @@ ghost use Rattle.std.specs.Prelude.{◌≤◌};
 
 use crate::first::Held;
 use call_table::Done;
-use libc::STDOUT_FILENO;
 use lines::{put_byte, put_number, put_word};
+use std::io::Stdout;
 
 // More than a line of a record, or of a case, takes.
 const LINE: usize = 256;
 
-pub(crate) fn bad() -> bool {
-    io::write_all(STDOUT_FILENO, b"bad\n");
+pub(crate) fn bad(mut stdout: Stdout) -> bool {
+    streams::write_all(&mut stdout, b"bad\n");
     false
 }
 
 // The line of the case, and a line for each record. False where a write fails.
-pub(crate) fn table(number: u64, count: usize, held: Held) -> bool
+pub(crate) fn table(stdout: Stdout, number: u64, count: usize, held: Held) -> bool
     requires { count ≤ 1100 }
 {
     let table = held.table;
     let done = held.done;
-    let mut out = io::buffer();
+    let mut out = streams::buffer();
     let mut at = put_done(&mut out, number, count, done);
     let mut index: usize = 0;
     while index < count {
         at = call_words::put_call(&mut out, at, table[index]);
         at = put_byte(&mut out, at, b'\n');
         if 4096 - LINE < at {
-            if !write_first(&out, at) {
+            if !write_first(stdout, &out, at) {
                 return false;
             }
             at = 0;
         }
         index += 1;
     }
-    write_first(&out, at)
+    write_first(stdout, &out, at)
 }
 
 fn put_done(out: &mut [u8], number: u64, count: usize, done: Done) -> usize {
@@ -54,9 +54,9 @@ fn put_numbered(out: &mut [u8], at: usize, word: &[u8], number: u64) -> usize {
 }
 
 // The first octets of a buffer; one that is full may have been cut, which counts as a failure.
-fn write_first(out: &[u8], length: usize) -> bool {
+fn write_first(mut stdout: Stdout, out: &[u8], length: usize) -> bool {
     if length < out.len() {
-        return io::write_all(STDOUT_FILENO, &out[0..length]);
+        return streams::write_all(&mut stdout, &out[0..length]);
     }
     false
 }

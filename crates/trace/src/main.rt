@@ -4,6 +4,6 @@
 use events::Node;
 use trace_line::Columns;
 
-fn main() {
-    trace_feed::serve(Node::Source, Columns::Trace, b"trace");
+fn main(rt: HostRuntime) {
+    trace_feed::serve(rt, Node::Source, Columns::Trace, b"trace");
 }

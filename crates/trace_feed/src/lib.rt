@@ -9,7 +9,7 @@ ghost use Rattle.std.specs.Prelude.{◌≡◌, length};
 
 use call::Call;
 use events::Node;
-use libc::{STDERR_FILENO, STDIN_FILENO, STDOUT_FILENO};
+use std::io::{Stderr, Stdin, Stdout};
 use trace_line::Columns;
 
 // Room for the lines of 4,096 records, of 160 octets each; the longest has less.
@@ -20,29 +20,38 @@ fn room() -> [u8; 655360]
 }
 
 // A line on standard error.
-fn complain(name: &[u8], what: &[u8]) {
+fn complain(mut stderr: Stderr, name: &[u8], what: &[u8]) {
     let mut line = [0u8; 64];
     let named = lines::put_word(&mut line, 0, name);
     let told = lines::put_word(&mut line, named, what);
     if told < 64 {
-        io::write_all(STDERR_FILENO, &line[0..told]);
+        streams::write_all(&mut stderr, &line[0..told]);
     }
 }
 
 // The first octets of a buffer, to standard output. Where the buffer is full they may have been cut, which counts as a failure.
-fn show(out: &[u8], length: usize, name: &[u8]) -> bool {
+fn show(mut stdout: Stdout, stderr: Stderr, out: &[u8], length: usize, name: &[u8]) -> bool {
     if length < out.len() {
-        if io::write_all(STDOUT_FILENO, &out[0..length]) {
+        if streams::write_all(&mut stdout, &out[0..length]) {
             return true;
         }
     }
-    complain(name, b": writing fails\n");
+    complain(stderr, name, b": writing fails\n");
     false
 }
 
 // Until the input ends, a record is bad, or reading or writing fails. A loop has to end, and nothing says that the input does: so the turns
 // are counted down, from a number that no run uses up.
-fn follow(node: Node, columns: Columns, name: &[u8], out: &mut [u8], input: &mut [u8])
+fn follow(
+    mut stdin: Stdin,
+    stdout: Stdout,
+    stderr: Stderr,
+    node: Node,
+    columns: Columns,
+    name: &[u8],
+    out: &mut [u8],
+    input: &mut [u8],
+)
     requires { length input.old ≡ 65536 }
 {
     let mut table = [Call::EMPTY; 64];
@@ -51,16 +60,15 @@ fn follow(node: Node, columns: Columns, name: &[u8], out: &mut [u8], input: &mut
     let mut turns: u64 = 281474976710656;
     while 0 < turns {
         turns -= 1;
-        let got = libc::read(STDIN_FILENO, &mut input[kept..]);
-        if got < 0 {
-            return complain(name, b": reading fails\n");
-        }
-        let filled = kept + io::count(got, &input[kept..]);
+        let Some(came) = streams::read_some(&mut stdin, &mut input[kept..]) else {
+            return complain(stderr, name, b": reading fails\n");
+        };
+        let filled = kept + came;
         if filled == kept {
-            return finish(kept, name);
+            return finish(stdout, stderr, kept, name);
         }
         let ran = trace_run::run(node, table, &input[0..filled], out, columns, count);
-        if !show(out, ran.at, name) {
+        if !show(stdout, stderr, out, ran.at, name) {
             return;
         }
         if !ran.good {
@@ -73,18 +81,29 @@ fn follow(node: Node, columns: Columns, name: &[u8], out: &mut [u8], input: &mut
 }
 
 // The input has ended: a record that is cut short is bad.
-fn finish(kept: usize, name: &[u8]) {
+fn finish(stdout: Stdout, stderr: Stderr, kept: usize, name: &[u8]) {
     if 0 < kept {
-        show(b"bad\n\n", 4, name);
+        show(stdout, stderr, b"bad\n\n", 4, name);
     }
 }
 
 // The first line, and then the input as it comes.
-pub fn serve(node: Node, columns: Columns, name: &[u8]) {
+pub fn serve(rt: HostRuntime, node: Node, columns: Columns, name: &[u8]) {
+    let stdout = rt.stdout();
+    let stderr = rt.stderr();
     let mut out = room();
     let first = trace_line::put_first_line(&mut out, 0, columns);
-    if show(&out, first, name) {
-        let mut input = io::large_buffer();
-        follow(node, columns, name, &mut out, &mut input);
+    if show(stdout, stderr, &out, first, name) {
+        let mut input = streams::large_buffer();
+        follow(
+            rt.stdin(),
+            stdout,
+            stderr,
+            node,
+            columns,
+            name,
+            &mut out,
+            &mut input,
+        );
     }
 }
