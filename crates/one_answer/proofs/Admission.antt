@@ -5,8 +5,9 @@ use Rattle.one_answer.proofs.Law.{facts, result}
 use Rattle.admission.specs.contracts.Admission.refusal as Admission-refusal
 use Rattle.admission.specs.contracts.admit as admit
 
-pub Admission-refusal-has_one_answer : {M : Type 1} → OneAnswer M Admission-refusal.ended Admission-refusal.clauses Admission-refusal.spec
+pub Admission-refusal-has_one_answer : {M : Type 1} →
+    OneAnswer M Admission-refusal.ended (λ 𝓤 𝓛. Admission-refusal.clauses 𝓛) (λ 𝓤 𝓛. Admission-refusal.spec 𝓛)
 Admission-refusal-has_one_answer 𝓤 𝓛 _ _ = (refl, λ _ _ _ _ _ _ _ _. facts 𝓤 result)
 
-pub admit-has_one_answer : {M : Type 1} → OneAnswer M admit.ended admit.clauses admit.spec
+pub admit-has_one_answer : {M : Type 1} → OneAnswer M admit.ended (λ 𝓤 𝓛. admit.clauses 𝓛) (λ 𝓤 𝓛. admit.spec 𝓛)
 admit-has_one_answer 𝓤 𝓛 _ _ = (refl, λ _ _ _ _ _ _ _ _. facts 𝓤 result)

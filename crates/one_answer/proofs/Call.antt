@@ -25,68 +25,82 @@ use Rattle.call.specs.contracts.Call.destination_called_release as Call-destinat
 use Rattle.call.specs.contracts.Call.destination_calling_release as Call-destination_calling_release
 use Rattle.call.specs.contracts.Call.at_destination as Call-at_destination
 
-pub Call-opened-has_one_answer : {M : Type 1} → OneAnswer M Call-opened.ended Call-opened.clauses Call-opened.spec
+pub Call-opened-has_one_answer : {M : Type 1} → OneAnswer M Call-opened.ended (λ 𝓤 𝓛. Call-opened.clauses 𝓛) (λ 𝓤 𝓛. Call-opened.spec 𝓛)
 Call-opened-has_one_answer 𝓤 𝓛 _ _ = (refl, λ _ _ _ _ _ _ _ _. facts 𝓤 result)
 
-pub Call-trigger-has_one_answer : {M : Type 1} → OneAnswer M Call-trigger.ended Call-trigger.clauses Call-trigger.spec
+pub Call-trigger-has_one_answer : {M : Type 1} → OneAnswer M Call-trigger.ended (λ 𝓤 𝓛. Call-trigger.clauses 𝓛) (λ 𝓤 𝓛. Call-trigger.spec 𝓛)
 Call-trigger-has_one_answer 𝓤 𝓛 _ _ = (refl, λ _ _ _ _ _ _ _ _. facts 𝓤 result)
 
-pub Call-path_found-has_one_answer : {M : Type 1} → OneAnswer M Call-path_found.ended Call-path_found.clauses Call-path_found.spec
+pub Call-path_found-has_one_answer : {M : Type 1} →
+    OneAnswer M Call-path_found.ended (λ 𝓤 𝓛. Call-path_found.clauses 𝓛) (λ 𝓤 𝓛. Call-path_found.spec 𝓛)
 Call-path_found-has_one_answer 𝓤 𝓛 _ _ = (refl, λ _ _ _ _ _ _ _ _. facts 𝓤 result)
 
-pub Call-no_path-has_one_answer : {M : Type 1} → OneAnswer M Call-no_path.ended Call-no_path.clauses Call-no_path.spec
+pub Call-no_path-has_one_answer : {M : Type 1} → OneAnswer M Call-no_path.ended (λ 𝓤 𝓛. Call-no_path.clauses 𝓛) (λ 𝓤 𝓛. Call-no_path.spec 𝓛)
 Call-no_path-has_one_answer 𝓤 𝓛 _ _ = (refl, λ _ _ _ _ _ _ _ _. facts 𝓤 result)
 
-pub Call-connect-has_one_answer : {M : Type 1} → OneAnswer M Call-connect.ended Call-connect.clauses Call-connect.spec
+pub Call-connect-has_one_answer : {M : Type 1} → OneAnswer M Call-connect.ended (λ 𝓤 𝓛. Call-connect.clauses 𝓛) (λ 𝓤 𝓛. Call-connect.spec 𝓛)
 Call-connect-has_one_answer 𝓤 𝓛 _ _ = (refl, λ _ _ _ _ _ _ _ _. facts 𝓤 result)
 
-pub Call-setup-has_one_answer : {M : Type 1} → OneAnswer M Call-setup.ended Call-setup.clauses Call-setup.spec
+pub Call-setup-has_one_answer : {M : Type 1} → OneAnswer M Call-setup.ended (λ 𝓤 𝓛. Call-setup.clauses 𝓛) (λ 𝓤 𝓛. Call-setup.spec 𝓛)
 Call-setup-has_one_answer 𝓤 𝓛 _ _ = (refl, λ _ _ _ _ _ _ _ _. facts 𝓤 result)
 
-pub Call-ready-has_one_answer : {M : Type 1} → OneAnswer M Call-ready.ended Call-ready.clauses Call-ready.spec
+pub Call-ready-has_one_answer : {M : Type 1} → OneAnswer M Call-ready.ended (λ 𝓤 𝓛. Call-ready.clauses 𝓛) (λ 𝓤 𝓛. Call-ready.spec 𝓛)
 Call-ready-has_one_answer 𝓤 𝓛 _ _ = (refl, λ _ _ _ _ _ _ _ _. facts 𝓤 result)
 
-pub Call-expiry-has_one_answer : {M : Type 1} → OneAnswer M Call-expiry.ended Call-expiry.clauses Call-expiry.spec
+pub Call-expiry-has_one_answer : {M : Type 1} → OneAnswer M Call-expiry.ended (λ 𝓤 𝓛. Call-expiry.clauses 𝓛) (λ 𝓤 𝓛. Call-expiry.spec 𝓛)
 Call-expiry-has_one_answer 𝓤 𝓛 _ _ = (refl, λ _ _ _ _ _ _ _ _. facts 𝓤 result)
 
-pub Call-calling_release-has_one_answer : {M : Type 1} → OneAnswer M Call-calling_release.ended Call-calling_release.clauses Call-calling_release.spec
+pub Call-calling_release-has_one_answer : {M : Type 1} →
+    OneAnswer M Call-calling_release.ended (λ 𝓤 𝓛. Call-calling_release.clauses 𝓛) (λ 𝓤 𝓛. Call-calling_release.spec 𝓛)
 Call-calling_release-has_one_answer 𝓤 𝓛 _ _ = (refl, λ _ _ _ _ _ _ _ _. facts 𝓤 result)
 
-pub Call-called_release-has_one_answer : {M : Type 1} → OneAnswer M Call-called_release.ended Call-called_release.clauses Call-called_release.spec
+pub Call-called_release-has_one_answer : {M : Type 1} →
+    OneAnswer M Call-called_release.ended (λ 𝓤 𝓛. Call-called_release.clauses 𝓛) (λ 𝓤 𝓛. Call-called_release.spec 𝓛)
 Call-called_release-has_one_answer 𝓤 𝓛 _ _ = (refl, λ _ _ _ _ _ _ _ _. facts 𝓤 result)
 
-pub Call-handle-has_one_answer : {M : Type 1} → OneAnswer M Call-handle.ended Call-handle.clauses Call-handle.spec
+pub Call-handle-has_one_answer : {M : Type 1} → OneAnswer M Call-handle.ended (λ 𝓤 𝓛. Call-handle.clauses 𝓛) (λ 𝓤 𝓛. Call-handle.spec 𝓛)
 Call-handle-has_one_answer 𝓤 𝓛 _ _ = (refl, λ _ _ _ _ _ _ _ _. facts 𝓤 result)
 
-pub Call-at_source-has_one_answer : {M : Type 1} → OneAnswer M Call-at_source.ended Call-at_source.clauses Call-at_source.spec
+pub Call-at_source-has_one_answer : {M : Type 1} →
+    OneAnswer M Call-at_source.ended (λ 𝓤 𝓛. Call-at_source.clauses 𝓛) (λ 𝓤 𝓛. Call-at_source.spec 𝓛)
 Call-at_source-has_one_answer 𝓤 𝓛 _ _ = (refl, λ _ _ _ _ _ _ _ _. facts 𝓤 result)
 
-pub Call-destination_trigger-has_one_answer : {M : Type 1} → OneAnswer M Call-destination_trigger.ended Call-destination_trigger.clauses Call-destination_trigger.spec
+pub Call-destination_trigger-has_one_answer : {M : Type 1} →
+    OneAnswer M Call-destination_trigger.ended (λ 𝓤 𝓛. Call-destination_trigger.clauses 𝓛) (λ 𝓤 𝓛. Call-destination_trigger.spec 𝓛)
 Call-destination_trigger-has_one_answer 𝓤 𝓛 _ _ = (refl, λ _ _ _ _ _ _ _ _. facts 𝓤 result)
 
-pub Call-destination_path_found-has_one_answer : {M : Type 1} → OneAnswer M Call-destination_path_found.ended Call-destination_path_found.clauses Call-destination_path_found.spec
+pub Call-destination_path_found-has_one_answer : {M : Type 1} →
+    OneAnswer M Call-destination_path_found.ended (λ 𝓤 𝓛. Call-destination_path_found.clauses 𝓛) (λ 𝓤 𝓛. Call-destination_path_found.spec 𝓛)
 Call-destination_path_found-has_one_answer 𝓤 𝓛 _ _ = (refl, λ _ _ _ _ _ _ _ _. facts 𝓤 result)
 
-pub Call-destination_no_path-has_one_answer : {M : Type 1} → OneAnswer M Call-destination_no_path.ended Call-destination_no_path.clauses Call-destination_no_path.spec
+pub Call-destination_no_path-has_one_answer : {M : Type 1} →
+    OneAnswer M Call-destination_no_path.ended (λ 𝓤 𝓛. Call-destination_no_path.clauses 𝓛) (λ 𝓤 𝓛. Call-destination_no_path.spec 𝓛)
 Call-destination_no_path-has_one_answer 𝓤 𝓛 _ _ = (refl, λ _ _ _ _ _ _ _ _. facts 𝓤 result)
 
-pub Call-destination_connect-has_one_answer : {M : Type 1} → OneAnswer M Call-destination_connect.ended Call-destination_connect.clauses Call-destination_connect.spec
+pub Call-destination_connect-has_one_answer : {M : Type 1} →
+    OneAnswer M Call-destination_connect.ended (λ 𝓤 𝓛. Call-destination_connect.clauses 𝓛) (λ 𝓤 𝓛. Call-destination_connect.spec 𝓛)
 Call-destination_connect-has_one_answer 𝓤 𝓛 _ _ = (refl, λ _ _ _ _ _ _ _ _. facts 𝓤 result)
 
-pub Call-destination_setup-has_one_answer : {M : Type 1} → OneAnswer M Call-destination_setup.ended Call-destination_setup.clauses Call-destination_setup.spec
+pub Call-destination_setup-has_one_answer : {M : Type 1} →
+    OneAnswer M Call-destination_setup.ended (λ 𝓤 𝓛. Call-destination_setup.clauses 𝓛) (λ 𝓤 𝓛. Call-destination_setup.spec 𝓛)
 Call-destination_setup-has_one_answer 𝓤 𝓛 _ _ = (refl, λ _ _ _ _ _ _ _ _. facts 𝓤 result)
 
-pub Call-destination_ready-has_one_answer : {M : Type 1} → OneAnswer M Call-destination_ready.ended Call-destination_ready.clauses Call-destination_ready.spec
+pub Call-destination_ready-has_one_answer : {M : Type 1} →
+    OneAnswer M Call-destination_ready.ended (λ 𝓤 𝓛. Call-destination_ready.clauses 𝓛) (λ 𝓤 𝓛. Call-destination_ready.spec 𝓛)
 Call-destination_ready-has_one_answer 𝓤 𝓛 _ _ = (refl, λ _ _ _ _ _ _ _ _. facts 𝓤 result)
 
-pub Call-destination_expiry-has_one_answer : {M : Type 1} → OneAnswer M Call-destination_expiry.ended Call-destination_expiry.clauses Call-destination_expiry.spec
+pub Call-destination_expiry-has_one_answer : {M : Type 1} →
+    OneAnswer M Call-destination_expiry.ended (λ 𝓤 𝓛. Call-destination_expiry.clauses 𝓛) (λ 𝓤 𝓛. Call-destination_expiry.spec 𝓛)
 Call-destination_expiry-has_one_answer 𝓤 𝓛 _ _ = (refl, λ _ _ _ _ _ _ _ _. facts 𝓤 result)
 
-pub Call-destination_called_release-has_one_answer : {M : Type 1} → OneAnswer M Call-destination_called_release.ended Call-destination_called_release.clauses Call-destination_called_release.spec
+pub Call-destination_called_release-has_one_answer : {M : Type 1} →
+    OneAnswer M Call-destination_called_release.ended (λ 𝓤 𝓛. Call-destination_called_release.clauses 𝓛) (λ 𝓤 𝓛. Call-destination_called_release.spec 𝓛)
 Call-destination_called_release-has_one_answer 𝓤 𝓛 _ _ = (refl, λ _ _ _ _ _ _ _ _. facts 𝓤 result)
 
-pub Call-destination_calling_release-has_one_answer : {M : Type 1} → OneAnswer M Call-destination_calling_release.ended Call-destination_calling_release.clauses Call-destination_calling_release.spec
+pub Call-destination_calling_release-has_one_answer : {M : Type 1} →
+    OneAnswer M Call-destination_calling_release.ended (λ 𝓤 𝓛. Call-destination_calling_release.clauses 𝓛) (λ 𝓤 𝓛. Call-destination_calling_release.spec 𝓛)
 Call-destination_calling_release-has_one_answer 𝓤 𝓛 _ _ = (refl, λ _ _ _ _ _ _ _ _. facts 𝓤 result)
 
-pub Call-at_destination-has_one_answer : {M : Type 1} → OneAnswer M Call-at_destination.ended Call-at_destination.clauses Call-at_destination.spec
+pub Call-at_destination-has_one_answer : {M : Type 1} →
+    OneAnswer M Call-at_destination.ended (λ 𝓤 𝓛. Call-at_destination.clauses 𝓛) (λ 𝓤 𝓛. Call-at_destination.spec 𝓛)
 Call-at_destination-has_one_answer 𝓤 𝓛 _ _ = (refl, λ _ _ _ _ _ _ _ _. facts 𝓤 result)

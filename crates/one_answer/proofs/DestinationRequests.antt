@@ -7,14 +7,14 @@ use Rattle.destination_requests.specs.contracts.path_row as path_row
 use Rattle.destination_requests.specs.contracts.no_path_row as no_path_row
 use Rattle.destination_requests.specs.contracts.connect_row as connect_row
 
-pub trigger_row-has_one_answer : {M : Type 1} → OneAnswer M trigger_row.ended trigger_row.clauses trigger_row.spec
+pub trigger_row-has_one_answer : {M : Type 1} → OneAnswer M trigger_row.ended (λ 𝓤 𝓛. trigger_row.clauses 𝓛) (λ 𝓤 𝓛. trigger_row.spec 𝓛)
 trigger_row-has_one_answer 𝓤 𝓛 _ _ = (refl, λ _ _ _ _ _ _ _ _. facts 𝓤 result)
 
-pub path_row-has_one_answer : {M : Type 1} → OneAnswer M path_row.ended path_row.clauses path_row.spec
+pub path_row-has_one_answer : {M : Type 1} → OneAnswer M path_row.ended (λ 𝓤 𝓛. path_row.clauses 𝓛) (λ 𝓤 𝓛. path_row.spec 𝓛)
 path_row-has_one_answer 𝓤 𝓛 _ _ = (refl, λ _ _ _ _ _ _ _ _. facts 𝓤 result)
 
-pub no_path_row-has_one_answer : {M : Type 1} → OneAnswer M no_path_row.ended no_path_row.clauses no_path_row.spec
+pub no_path_row-has_one_answer : {M : Type 1} → OneAnswer M no_path_row.ended (λ 𝓤 𝓛. no_path_row.clauses 𝓛) (λ 𝓤 𝓛. no_path_row.spec 𝓛)
 no_path_row-has_one_answer 𝓤 𝓛 _ _ = (refl, λ _ _ _ _ _ _ _ _. facts 𝓤 result)
 
-pub connect_row-has_one_answer : {M : Type 1} → OneAnswer M connect_row.ended connect_row.clauses connect_row.spec
+pub connect_row-has_one_answer : {M : Type 1} → OneAnswer M connect_row.ended (λ 𝓤 𝓛. connect_row.clauses 𝓛) (λ 𝓤 𝓛. connect_row.spec 𝓛)
 connect_row-has_one_answer 𝓤 𝓛 _ _ = (refl, λ _ _ _ _ _ _ _ _. facts 𝓤 result)

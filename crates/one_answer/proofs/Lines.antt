@@ -6,11 +6,11 @@ use Rattle.lines.specs.contracts.put_byte as put_byte
 use Rattle.lines.specs.contracts.put_word as put_word
 use Rattle.lines.specs.contracts.put_number as put_number
 
-pub put_byte-has_one_answer : {M : Type 1} → OneAnswer M put_byte.ended put_byte.clauses put_byte.spec
+pub put_byte-has_one_answer : {M : Type 1} → OneAnswer M put_byte.ended (λ 𝓤 𝓛. put_byte.clauses 𝓛) (λ 𝓤 𝓛. put_byte.spec 𝓛)
 put_byte-has_one_answer 𝓤 𝓛 _ _ = (refl, λ _ _ _ _ _ _ _ _. facts 𝓤 (paged refl))
 
-pub put_word-has_one_answer : {M : Type 1} → OneAnswer M put_word.ended put_word.clauses put_word.spec
+pub put_word-has_one_answer : {M : Type 1} → OneAnswer M put_word.ended (λ 𝓤 𝓛. put_word.clauses 𝓛) (λ 𝓤 𝓛. put_word.spec 𝓛)
 put_word-has_one_answer 𝓤 𝓛 _ _ = (refl, λ _ _ _ _ _ _ _ _. facts 𝓤 (paged refl))
 
-pub put_number-has_one_answer : {M : Type 1} → OneAnswer M put_number.ended put_number.clauses put_number.spec
+pub put_number-has_one_answer : {M : Type 1} → OneAnswer M put_number.ended (λ 𝓤 𝓛. put_number.clauses 𝓛) (λ 𝓤 𝓛. put_number.spec 𝓛)
 put_number-has_one_answer 𝓤 𝓛 _ _ = (refl, λ _ _ _ _ _ _ _ _. facts 𝓤 (paged refl))

@@ -10,23 +10,24 @@ use Rattle.shared_rows.specs.contracts.idle_lost as idle_lost
 use Rattle.shared_rows.specs.contracts.party_row as party_row
 use Rattle.shared_rows.specs.contracts.expiry_row as expiry_row
 
-pub trigger-in-has_one_answer : {M : Type 1} → OneAnswer M trigger-in.ended trigger-in.clauses trigger-in.spec
+pub trigger-in-has_one_answer : {M : Type 1} → OneAnswer M trigger-in.ended (λ 𝓤 𝓛. trigger-in.clauses 𝓛) (λ 𝓤 𝓛. trigger-in.spec 𝓛)
 trigger-in-has_one_answer 𝓤 𝓛 _ _ = (refl, λ _ _ _ _ _ _ _ _. facts 𝓤 result)
 
-pub soft_path-has_one_answer : {M : Type 1} → OneAnswer M soft_path.ended soft_path.clauses soft_path.spec
+pub soft_path-has_one_answer : {M : Type 1} → OneAnswer M soft_path.ended (λ 𝓤 𝓛. soft_path.clauses 𝓛) (λ 𝓤 𝓛. soft_path.spec 𝓛)
 soft_path-has_one_answer 𝓤 𝓛 _ _ = (refl, λ _ _ _ _ _ _ _ _. facts 𝓤 result)
 
-pub soft_connect-has_one_answer : {M : Type 1} → OneAnswer M soft_connect.ended soft_connect.clauses soft_connect.spec
+pub soft_connect-has_one_answer : {M : Type 1} → OneAnswer M soft_connect.ended (λ 𝓤 𝓛. soft_connect.clauses 𝓛) (λ 𝓤 𝓛. soft_connect.spec 𝓛)
 soft_connect-has_one_answer 𝓤 𝓛 _ _ = (refl, λ _ _ _ _ _ _ _ _. facts 𝓤 result)
 
-pub soft_crankback-has_one_answer : {M : Type 1} → OneAnswer M soft_crankback.ended soft_crankback.clauses soft_crankback.spec
+pub soft_crankback-has_one_answer : {M : Type 1} →
+    OneAnswer M soft_crankback.ended (λ 𝓤 𝓛. soft_crankback.clauses 𝓛) (λ 𝓤 𝓛. soft_crankback.spec 𝓛)
 soft_crankback-has_one_answer 𝓤 𝓛 _ _ = (refl, λ _ _ _ _ _ _ _ _. facts 𝓤 result)
 
-pub idle_lost-has_one_answer : {M : Type 1} → OneAnswer M idle_lost.ended idle_lost.clauses idle_lost.spec
+pub idle_lost-has_one_answer : {M : Type 1} → OneAnswer M idle_lost.ended (λ 𝓤 𝓛. idle_lost.clauses 𝓛) (λ 𝓤 𝓛. idle_lost.spec 𝓛)
 idle_lost-has_one_answer 𝓤 𝓛 _ _ = (refl, λ _ _ _ _ _ _ _ _. facts 𝓤 result)
 
-pub party_row-has_one_answer : {M : Type 1} → OneAnswer M party_row.ended party_row.clauses party_row.spec
+pub party_row-has_one_answer : {M : Type 1} → OneAnswer M party_row.ended (λ 𝓤 𝓛. party_row.clauses 𝓛) (λ 𝓤 𝓛. party_row.spec 𝓛)
 party_row-has_one_answer 𝓤 𝓛 _ _ = (refl, λ _ _ _ _ _ _ _ _. facts 𝓤 result)
 
-pub expiry_row-has_one_answer : {M : Type 1} → OneAnswer M expiry_row.ended expiry_row.clauses expiry_row.spec
+pub expiry_row-has_one_answer : {M : Type 1} → OneAnswer M expiry_row.ended (λ 𝓤 𝓛. expiry_row.clauses 𝓛) (λ 𝓤 𝓛. expiry_row.spec 𝓛)
 expiry_row-has_one_answer 𝓤 𝓛 _ _ = (refl, λ _ _ _ _ _ _ _ _. facts 𝓤 result)

@@ -5,8 +5,8 @@ use Rattle.one_answer.proofs.Law.{facts, result}
 use Rattle.source_setups.specs.contracts.ready_row as ready_row
 use Rattle.source_setups.specs.contracts.setup_row as setup_row
 
-pub ready_row-has_one_answer : {M : Type 1} → OneAnswer M ready_row.ended ready_row.clauses ready_row.spec
+pub ready_row-has_one_answer : {M : Type 1} → OneAnswer M ready_row.ended (λ 𝓤 𝓛. ready_row.clauses 𝓛) (λ 𝓤 𝓛. ready_row.spec 𝓛)
 ready_row-has_one_answer 𝓤 𝓛 _ _ = (refl, λ _ _ _ _ _ _ _ _. facts 𝓤 result)
 
-pub setup_row-has_one_answer : {M : Type 1} → OneAnswer M setup_row.ended setup_row.clauses setup_row.spec
+pub setup_row-has_one_answer : {M : Type 1} → OneAnswer M setup_row.ended (λ 𝓤 𝓛. setup_row.clauses 𝓛) (λ 𝓤 𝓛. setup_row.spec 𝓛)
 setup_row-has_one_answer 𝓤 𝓛 _ _ = (refl, λ _ _ _ _ _ _ _ _. facts 𝓤 result)

@@ -11,20 +11,21 @@ use Rattle.trace_line.specs.contracts.put_line as put_line
 use Rattle.trace_run.specs.contracts.run as run
 use Rattle.trace_feed.specs.contracts.serve as serve
 
-pub put_field-has_one_answer : {M : Type 1} → OneAnswer M put_field.ended put_field.clauses put_field.spec
+pub put_field-has_one_answer : {M : Type 1} → OneAnswer M put_field.ended (λ 𝓤 𝓛. put_field.clauses 𝓛) (λ 𝓤 𝓛. put_field.spec 𝓛)
 put_field-has_one_answer 𝓤 𝓛 _ _ = (refl, λ _ _ _ _ _ _ _ _. facts 𝓤 (paged refl))
 
-pub put_count-has_one_answer : {M : Type 1} → OneAnswer M put_count.ended put_count.clauses put_count.spec
+pub put_count-has_one_answer : {M : Type 1} → OneAnswer M put_count.ended (λ 𝓤 𝓛. put_count.clauses 𝓛) (λ 𝓤 𝓛. put_count.spec 𝓛)
 put_count-has_one_answer 𝓤 𝓛 _ _ = (refl, λ _ _ _ _ _ _ _ _. facts 𝓤 (paged refl))
 
-pub put_first_line-has_one_answer : {M : Type 1} → OneAnswer M put_first_line.ended put_first_line.clauses put_first_line.spec
+pub put_first_line-has_one_answer : {M : Type 1} →
+    OneAnswer M put_first_line.ended (λ 𝓤 𝓛. put_first_line.clauses 𝓛) (λ 𝓤 𝓛. put_first_line.spec 𝓛)
 put_first_line-has_one_answer 𝓤 𝓛 _ _ = (refl, λ _ _ _ _ _ _ _ _. facts 𝓤 (paged refl))
 
-pub put_line-has_one_answer : {M : Type 1} → OneAnswer M put_line.ended put_line.clauses put_line.spec
+pub put_line-has_one_answer : {M : Type 1} → OneAnswer M put_line.ended (λ 𝓤 𝓛. put_line.clauses 𝓛) (λ 𝓤 𝓛. put_line.spec 𝓛)
 put_line-has_one_answer 𝓤 𝓛 _ _ = (refl, λ _ _ _ _ _ _ _ _. facts 𝓤 (paged refl))
 
 -- each of the four fields that are answered has its equation, one of them with the buffer
-pub run-has_one_answer : {M : Type 1} → OneAnswer M run.ended run.clauses run.spec
+pub run-has_one_answer : {M : Type 1} → OneAnswer M run.ended (λ 𝓤 𝓛. run.clauses 𝓛) (λ 𝓤 𝓛. run.spec 𝓛)
 run-has_one_answer 𝓤 𝓛 _ _ = (
   refl,
   λ _ _ _ _ _ _ _ _. facts 𝓤 (λ p q.
@@ -35,5 +36,5 @@ run-has_one_answer 𝓤 𝓛 _ _ = (
 )
 
 -- nothing is answered, and nothing lent to be written
-pub serve-has_one_answer : {M : Type 1} → OneAnswer M serve.ended serve.clauses serve.spec
+pub serve-has_one_answer : {M : Type 1} → OneAnswer M serve.ended (λ 𝓤 𝓛. serve.clauses 𝓛) (λ 𝓤 𝓛. serve.spec 𝓛)
 serve-has_one_answer 𝓤 𝓛 _ _ = (refl, λ _ _ _ _ _ _ _ _. fact_i 𝓤 _ _ (refl, refl))

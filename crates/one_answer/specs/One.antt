@@ -23,10 +23,10 @@ AtAnyModel M Made = (𝓤 : Ura M) → (𝓛 : Logic 𝓤) → (Memory → SProp
 -- `⌜ .. ⌝` of a contract is. `Lasts` holds the contents at exit of each `&mut` parameter, so that none is left out
 abbrev pub OneAnswer : (M : Type 1) (T : Ended) → AtAnyModel M (λ 𝓤. Clauses 𝓤 T) → AtAnyModel M (λ 𝓤. Spec 𝓤 T.signature) → Type 2
 OneAnswer M T clauses spec = (𝓤 : Ura M) (𝓛 : Logic 𝓤) (memory : Memory → SProp 𝓤) (run : Routine → Fun 𝓤) →
-    (spec 𝓛 memory run ≡ closing 𝓛 T (clauses 𝓛 memory run)) ×
-    ((κs : Lfts T.signature.lifetimes) (a : Args T.signature κs) (g h : (clauses 𝓛 memory run κs a).ghost)
+    (spec 𝓤 𝓛 memory run ≡ closing 𝓛 T (clauses 𝓤 𝓛 memory run)) ×
+    ((κs : Lfts T.signature.lifetimes) (a : Args T.signature κs) (g h : (clauses 𝓤 𝓛 memory run κs a).ghost)
     (r s : Res T.signature κs) (left other : Lasts T κs a) →
     ent 𝓤
-    (conj 𝓤 ((clauses 𝓛 memory run κs a).ensures g r (at_exit T κs a left))
-    ((clauses 𝓛 memory run κs a).ensures h s (at_exit T κs a other)))
+    (conj 𝓤 ((clauses 𝓤 𝓛 memory run κs a).ensures g r (at_exit T κs a left))
+    ((clauses 𝓤 𝓛 memory run κs a).ensures h s (at_exit T κs a other)))
     (fact 𝓤 ((r ≡ s) × (left ≡ other))))
