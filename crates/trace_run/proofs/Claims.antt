@@ -38,11 +38,13 @@ unfolding printed_of first_line line_text numbers_text rest_text number_text spe
 five_lines = refl
 
 pub story_is_printed : claim.StoryIsPrinted
-unfolding story printed_of first_line line_text numbers_text rest_text number_text spelled on_request record_at shown_of read_from has distinct_of
+unfolding story printed_of first_line line_text numbers_text rest_text number_text spelled on_request record_at shown_of read_from has
+    distinct_of
 story_is_printed = refl
 
 pub destination_story_is_printed : claim.DestinationStoryIsPrinted
-unfolding destination_story printed_of first_line line_text numbers_text rest_text number_text spelled on_request record_at shown_of read_from has distinct_of
+unfolding destination_story printed_of first_line line_text numbers_text rest_text number_text spelled on_request record_at shown_of
+    read_from has distinct_of
 destination_story_is_printed = refl
 
 -- ---- at an end of the call
@@ -58,10 +60,12 @@ module _ (node : Node) where
   same_run [] ys f = refl
   same_run (a ∷ more) ys f =
       let e = table_claims.fit_needs_no_check ys a.key a.act ((fit_exactly ys).1 f) in
-      ap (λ (l : List AfterOne). step_by (ran_of (half_of node) ys a.key a.act) (table_of (half_of node) ys a.key a.act) ∷ l) (same_run more (table_of (half_of node) ys a.key a.act) (table_claims.stays_fit ys a.key a.act f))
+      ap (λ (l : List AfterOne). step_by (ran_of (half_of node) ys a.key a.act) (table_of (half_of node) ys a.key a.act) ∷ l)
+      (same_run more (table_of (half_of node) ys a.key a.act) (table_claims.stays_fit ys a.key a.act f))
       ∙ (λ j. step_by (sym e.0 j) (sym e.1 j) ∷ unchecked_run node more (sym e.1 j))
 
-  no_check : (n : ℕ) → n ≤ 1024 → (asked : List Asked) → checked_run node asked (replicate n emptied) ≡ unchecked_run node asked (replicate n emptied)
+  no_check : (n : ℕ) → n ≤ 1024 → (asked : List Asked) →
+      checked_run node asked (replicate n emptied) ≡ unchecked_run node asked (replicate n emptied)
   no_check n few asked = same_run asked (replicate n emptied) (empty_is_fit n few)
 
   on_fit : (w : Columns) (p : Past) (key : ℕ) (q : Request) → FitTable p.table → FitTable (on_request node w p key q).table
@@ -69,8 +73,11 @@ module _ (node : Node) where
   on_fit w p key Bad f = f
   on_fit w p key (Asks act) f = table_claims.stays_fit p.table key act f
 
-  by_good : (w : Columns) (s : List ℕ) (p : Past) (r : ℕ) (b : Bool) → FitTable (after_records node w s p r).table → FitTable (cond b (on_decoded node w (after_records node w s p r) (decoded_at node (record_at s (r * 16)))) (after_records node w s p r)).table
-  by_good w s p r true f = on_fit w (after_records node w s p r) (decoded_at node (record_at s (r * 16))).key (decoded_at node (record_at s (r * 16))).request f
+  by_good : (w : Columns) (s : List ℕ) (p : Past) (r : ℕ) (b : Bool) → FitTable (after_records node w s p r).table →
+      FitTable
+      (cond b (on_decoded node w (after_records node w s p r) (decoded_at node (record_at s (r * 16)))) (after_records node w s p r)).table
+  by_good w s p r true f =
+      on_fit w (after_records node w s p r) (decoded_at node (record_at s (r * 16))).key (decoded_at node (record_at s (r * 16))).request f
   by_good w s p r false f = f
 
   run_fit : (w : Columns) (s : List ℕ) (p : Past) (r : ℕ) → FitTable p.table → FitTable (after_records node w s p r).table
@@ -88,7 +95,8 @@ module _ (node : Node) where
   abbrev behind : List ℕ → Past → Past
   behind front q = record { table = q.table; text = front ++ q.text; count = q.count; good = q.good }
 
-  on_behind : (w : Columns) (front : List ℕ) (q : Past) (key : ℕ) (x : Request) → on_request node w (behind front q) key x ≡ behind front (on_request node w q key x)
+  on_behind : (w : Columns) (front : List ℕ) (q : Past) (key : ℕ) (x : Request) →
+      on_request node w (behind front q) key x ≡ behind front (on_request node w q key x)
   unfolding on_request
   on_behind w front q key Bad = λ i. record { table = q.table; text = append_assoc front q.text bad_line i; count = q.count; good = false }
   on_behind w front q key (Asks act) = λ i.
@@ -100,7 +108,8 @@ module _ (node : Node) where
       }
 
   next_behind : (w : Columns) (front : List ℕ) (q : Past) (os : List ℕ) (b : Bool) →
-      cond b (on_decoded node w (behind front q) (decoded_at node os)) (behind front q) ≡ behind front (cond b (on_decoded node w q (decoded_at node os)) q)
+      cond b (on_decoded node w (behind front q) (decoded_at node os)) (behind front q)
+      ≡ behind front (cond b (on_decoded node w q (decoded_at node os)) q)
   next_behind w front q os true = on_behind w front q (decoded_at node os).key (decoded_at node os).request
   next_behind w front q os false = refl
 
@@ -108,17 +117,21 @@ module _ (node : Node) where
   nothing_yet q g i = record { table = q.table; text = sym (append-nil q.text) i; count = q.count; good = g i }
 
   chunks : (w : Columns) (s : List ℕ) (p : Past) (m k : ℕ) → (after_records node w s p m).good ≡ true →
-      after_records node w s p (k + m) ≡ behind (after_records node w s p m).text (after_records node w (drop (m * 16) s) (begin (after_records node w s p m).table (after_records node w s p m).count) k)
+      after_records node w s p (k + m)
+      ≡ behind (after_records node w s p m).text
+      (after_records node w (drop (m * 16) s) (begin (after_records node w s p m).table (after_records node w s p m).count) k)
   chunks w s p m zero g =
       let e : 0 + m ≡ m = omega arith in
       ap (after_records node w s p) e ∙ nothing_yet (after_records node w s p m) g
   chunks w s p m (suc k) g =
       let e : suc k + m ≡ suc (k + m) = omega arith in
-      let c : Past = after_records node w (drop (m * 16) s) (begin (after_records node w s p m).table (after_records node w s p m).count) k in
+      let c : Past =
+      after_records node w (drop (m * 16) s) (begin (after_records node w s p m).table (after_records node w s p m).count) k in
       ap (after_records node w s p) e
       ∙ (ap (λ (q : Past). cond q.good (on_decoded node w q (decoded_at node (record_at s ((k + m) * 16)))) q) (chunks w s p m k g)
       ∙ (next_behind w (after_records node w s p m).text c (record_at s ((k + m) * 16)) c.good
-      ∙ ap (λ (os : List ℕ). behind (after_records node w s p m).text (cond c.good (on_decoded node w c (decoded_at node os)) c)) (sym (same_record s m k))))
+      ∙ ap (λ (os : List ℕ). behind (after_records node w s p m).text (cond c.good (on_decoded node w c (decoded_at node os)) c))
+      (sym (same_record s m k))))
 
 -- ---- at either
 pub no_check_needed : claim.NoCheckNeeded

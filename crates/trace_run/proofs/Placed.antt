@@ -1,4 +1,5 @@
--- Over a fit table of 64, where an opening or event goes by the keys, and what comes of it there, are what `ran_of` and `table_of` say. Assumes nothing.
+-- Over a fit table of 64, where an opening or event goes by the keys, and what comes of it there, are what `ran_of` and `table_of` say.
+-- Assumes nothing.
 use Prim.Native.Nat.{ℕ, zero, suc, ◌+◌, ◌≤◌, ◌<◌, suc-le-suc}
 use native.Mathlib.Nat.{not-suc-le-zero, le_of_suc-le-suc}
 use native.Mathlib.Omega.{arith}
@@ -40,7 +41,8 @@ use Rattle.trace_run.specs.Run.{shown_of}
 use Rattle.trace_run.specs.Placed.{keys_in, index_of, place_for, refused_with, carried_on, worked_on, unplaced_for}
 
 -- the call of a key: at the first place that has it, and empty where none has
-call_first : (k : ℕ) (ys : List Call) (i : ℕ) → i < length ys → (get_or ys i emptied).key ≡ k → ((m : ℕ) → m < i → (get_or ys m emptied).key ≡ k → ⊥) → call_of k ys ≡ get_or ys i emptied
+call_first : (k : ℕ) (ys : List Call) (i : ℕ) → i < length ys → (get_or ys i emptied).key ≡ k →
+    ((m : ℕ) → m < i → (get_or ys m emptied).key ≡ k → ⊥) → call_of k ys ≡ get_or ys i emptied
 call_first k [] i l e b = absurd (not-suc-le-zero l)
 call_first k (c ∷ cs) zero l e b = rw (eq-eqb c.key k e)
 call_first k (c ∷ cs) (suc i) l e b =
@@ -89,7 +91,8 @@ here k ys i c p =
     }
 
 nowhere : (k : ℕ) (ys : List Call) → first k 0 ys ≡ Nothing → (m : ℕ) → m < length ys → (get_or ys m emptied).key ≡ k → ⊥
-nowhere k ys p m l e = true≢false (sym (stands_on_record k m ys l e) ∙ (sym (on_record_lem k 0 ys) ∙ ap (λ (x : Found). not (is_nothing x)) p))
+nowhere k ys p m l e =
+    true≢false (sym (stands_on_record k m ys l e) ∙ (sym (on_record_lem k 0 ys) ∙ ap (λ (x : Found). not (is_nothing x)) p))
 
 key_of : {a b : Call} → a ≡ b → a.key ≡ b.key
 key_of e = ap (λ (x : Call). x.key) e
@@ -109,7 +112,8 @@ module _ (node : Node) where
 
   module _ (ys : List Call) (f : FitTable ys) where
     -- a key but 0 stands at one place only
-    alone : (k i m : ℕ) → (k ≡ 0 → ⊥) → i < length ys → m < length ys → (get_or ys i emptied).key ≡ k → (get_or ys m emptied).key ≡ k → (m ≡ i → ⊥) → ⊥
+    alone : (k i m : ℕ) → (k ≡ 0 → ⊥) → i < length ys → m < length ys → (get_or ys i emptied).key ≡ k → (get_or ys m emptied).key ≡ k →
+        (m ≡ i → ⊥) → ⊥
     alone k i m z li lm ei em o = by_order (ltb m i) refl
       where
         by_order : (b : Bool) → ltb m i ≡ b → ⊥
@@ -120,7 +124,8 @@ module _ (node : Node) where
 
     module _ (key : ℕ) (z : key ≡ 0 → ⊥) where
       -- a call with its key at the place of the first, and all before it as they were
-      call_put : (i : ℕ) (d : Call) → i < length ys → ((m : ℕ) → m < i → (get_or ys m emptied).key ≡ key → ⊥) → d.key ≡ key → call_of key (set ys i d) ≡ d
+      call_put : (i : ℕ) (d : Call) → i < length ys → ((m : ℕ) → m < i → (get_or ys m emptied).key ≡ key → ⊥) → d.key ≡ key →
+          call_of key (set ys i d) ≡ d
       call_put i d l b e =
           call_first key (set ys i d) i (omega (arith, length-set ys i d)) (key_of (get_or-set_same ys i d emptied l) ∙ e)
           (λ m n q. b m n (sym (key_of (get_or-set_other ys i m d emptied (λ (s : m ≡ i). omega arith))) ∙ q))
@@ -136,16 +141,20 @@ module _ (node : Node) where
         where
           by_place : (m : ℕ) → m < length ys → (get_or (set ys i emptied) m emptied).key ≡ key → ⊥
           by_place m lm q =
-              let o : m ≡ i → ⊥ = λ s. z (sym q ∙ (ap (λ (x : ℕ). (get_or (set ys i emptied) x emptied).key) s ∙ key_of (get_or-set_same ys i emptied emptied l))) in
+              let o : m ≡ i → ⊥ = λ s.
+              z (sym q ∙ (ap (λ (x : ℕ). (get_or (set ys i emptied) x emptied).key) s ∙ key_of (get_or-set_same ys i emptied emptied l))) in
               alone key i m z l lm e (sym (key_of (get_or-set_other ys i m emptied emptied o)) ∙ q) o
 
-      event_shown : (i : ℕ) (c : Call) (e : Event) → Here key ys i c → call_of key (set ys i (handled_at (half_of node) c e).call) ≡ (handled_at (half_of node) c e).call
+      event_shown : (i : ℕ) (c : Call) (e : Event) → Here key ys i c →
+          call_of key (set ys i (handled_at (half_of node) c e).call) ≡ (handled_at (half_of node) c e).call
       event_shown i c e h =
           let cn : c.key ≡ 0 → ⊥ = λ q. z (sym h.named ∙ q) in
           let fc : FitRecord c = rw h.there at (f.each i h.inside) in
           let r = after_event (half_of node) (lawful_at node) c e cn (fc.used cn) in
           ⊎_elim
-          (λ q. let g : (handled_at (half_of node) c e).call ≡ emptied = r.0.empty q in rw g (call_gone i h.inside (key_of h.there ∙ h.named)))
+          (λ q.
+          let g : (handled_at (half_of node) c e).call ≡ emptied = r.0.empty q in
+          rw g (call_gone i h.inside (key_of h.there ∙ h.named)))
           (λ q. call_put i (handled_at (half_of node) c e).call h.inside h.before (q ∙ h.named))
           r.1
 
@@ -160,7 +169,8 @@ module _ (node : Node) where
   Within (At i c) = i < 64
   Within Nothing = Unit {0}
 
-  -- where a record is found for it, that is so whether the table is full or not: an opening is asked for an empty one only where its key is missing
+  -- where a record is found for it, that is so whether the table is full or not: an opening is asked for an empty one only where its key
+  -- is missing
   admitted_in : (key : ℕ) (act : Act) (found free : Found) → Within found → Within free → place_on found free act < 64 →
       admission_of key act (leb 64 (place_in 64 found)) false ≡ admission_of key act (is_nothing found) (is_nothing free)
   admitted_in key act (At i c) free l m h =
@@ -178,16 +188,19 @@ module _ (node : Node) where
   admitted_out key (Meets e) Nothing free l m h = refl
 
   -- there it is refused
-  turned_away_lem : (key : ℕ) (act : Act) (c : Call) → carried_on node c key (admission_of key act true true) ≡ refused_with (refusal_in (admission_of key act true true)) c
+  turned_away_lem : (key : ℕ) (act : Act) (c : Call) →
+      carried_on node c key (admission_of key act true true) ≡ refused_with (refusal_in (admission_of key act true true)) c
   turned_away_lem key act c = by_key (eqb key 0) act
     where
-      by_key : (b : Bool) (act : Act) → let a = cond b (Refuses KeyZero) (act_admitted act true true) in carried_on node c key a ≡ refused_with (refusal_in a) c
+      by_key : (b : Bool) (act : Act) →
+          let a = cond b (Refuses KeyZero) (act_admitted act true true) in carried_on node c key a ≡ refused_with (refusal_in a) c
       by_key true act = refl
       by_key false (Opens wanted) = refl
       by_key false (Meets e) = refl
 
   -- the place, by what the searches find
-  place_on_lem : (act : Act) (found free : Found) → Within found → (ks : List ℕ) → index_of 0 ks ≡ place_in 64 free → place_for ks (place_in 64 found) act ≡ place_on found free act
+  place_on_lem : (act : Act) (found free : Found) → Within found → (ks : List ℕ) → index_of 0 ks ≡ place_in 64 free →
+      place_for ks (place_in 64 found) act ≡ place_on found free act
   place_on_lem act (At i c) free l ks q = rw (lt-ltb i 64 l)
   place_on_lem (Opens wanted) Nothing free l ks q = q
   place_on_lem (Meets e) Nothing free l ks q = refl
@@ -199,7 +212,8 @@ module _ (node : Node) where
       × (shown_by ys key d ≡ carried_on node (get_or ys j emptied) key a)
 
   -- a refusal leaves the table, and shows the record of the key where it goes
-  refusal_goes : (ys : List Call) (key : ℕ) (a : Answer) (j : ℕ) → get_or ys j emptied ≡ call_of key ys → Goes ys key (Refuses a) j (refused_at (length ys) a)
+  refusal_goes : (ys : List Call) (key : ℕ) (a : Answer) (j : ℕ) → get_or ys j emptied ≡ call_of key ys →
+      Goes ys key (Refuses a) j (refused_at (length ys) a)
   refusal_goes ys key a j e =
       let q = (past_the_end ys a).0 in
       (q ∙ sym (set-get_or ys j emptied), shown_as (refused_with a (get_or ys j emptied)) _ (ap (call_of key) q ∙ sym e))
@@ -222,8 +236,11 @@ module _ (node : Node) where
         Goes ys key a (place_on found free act) (ran_by (half_of node) (length ys) (record { found = found; free = free }) key a)
     by_found (Opens wanted) (At i c) free p q z = refusal_goes ys key KeyOnRecord i (call_there key (At i c) p)
     by_found (Opens wanted) Nothing (At i c) p q z =
-        let h = here 0 ys i c q in
-        (refl, shown_as (opened_for key wanted) _ (call_put ys f key z i _ h.inside (λ m l e. nowhere key ys p m (omega (arith, h.inside)) e) refl))
+        let h = here 0 ys i c q in (
+          refl,
+          shown_as (opened_for key wanted) _
+              (call_put ys f key z i _ h.inside (λ m l e. nowhere key ys p m (omega (arith, h.inside)) e) refl),
+        )
     by_found (Opens wanted) Nothing Nothing p q z = refusal_goes ys key NoEmptyRecord 64 (call_there key Nothing p)
     by_found (Meets e) (At i c) free p q z =
         let h = here key ys i c p in
@@ -231,7 +248,8 @@ module _ (node : Node) where
     by_found (Meets e) Nothing free p q z = refusal_goes ys key KeyNotOnRecord 64 (call_there key Nothing p)
 
     -- key 0 is found wherever a record is empty, and refused there
-    by_zero : (act : Act) (found free : Found) → first key 0 ys ≡ found → first 0 0 ys ≡ free → key ≡ 0 → place_on found free act ≡ place_in 64 found
+    by_zero : (act : Act) (found free : Found) → first key 0 ys ≡ found → first 0 0 ys ≡ free → key ≡ 0 →
+        place_on found free act ≡ place_in 64 found
     by_zero act (At i c) free p q z = refl
     by_zero (Meets e) Nothing free p q z = refl
     by_zero (Opens wanted) Nothing free p q z = ap (place_in 64) (sym q ∙ (ap (λ (k : ℕ). first k 0 ys) (sym z) ∙ p))
@@ -246,7 +264,8 @@ module _ (node : Node) where
 
     went : (act : Act) → let a = admission_of key act (is_nothing (first key 0 ys)) (is_nothing (first 0 0 ys)) in
         let j = place_on (first key 0 ys) (first 0 0 ys) act in
-        (table_of (half_of node) ys key act ≡ set ys j (carried_on node (get_or ys j emptied) key a).call) × (shown_of node ys key act ≡ carried_on node (get_or ys j emptied) key a)
+        (table_of (half_of node) ys key act ≡ set ys j (carried_on node (get_or ys j emptied) key a).call)
+        × (shown_of node ys key act ≡ carried_on node (get_or ys j emptied) key a)
     unfolding shown_of
     went act =
         rw (← (table_claims.fit_needs_no_check ys key act ((fit_exactly ys).1 f)).0, sought_is ys key)

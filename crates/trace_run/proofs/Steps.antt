@@ -36,7 +36,8 @@ module _ (node : Node) where
   table_claims = any.claims (half_of node) (lawful_at node)
 
   -- where a run stands after r records of s: what has been printed stands in the buffer, and the keys are those of the table, which is fit
-  pub record Standing (w : Columns) (s : List ℕ) (p : Past) (xs : List ℕ) (r : ℕ) (t : List Call) (ks : List ℕ) (n at : ℕ) (o : List ℕ) : Type 0 where
+  pub record Standing (w : Columns) (s : List ℕ) (p : Past) (xs : List ℕ) (r : ℕ) (t : List Call) (ks : List ℕ) (n at : ℕ)
+      (o : List ℕ) : Type 0 where
     pub table : t ≡ (after_records node w s p r).table
     pub count : n ≡ (after_records node w s p r).count
     pub good : true ≡ (after_records node w s p r).good
@@ -45,16 +46,22 @@ module _ (node : Node) where
     pub calls : length t ≡ 64
     pub fit : FitTable t
 
-  pub begins : (w : Columns) (s : List ℕ) (t : List Call) (n : ℕ) (xs ks : List ℕ) → ks ≡ keys_in t → length t ≡ 64 → fit_table t ≡ true → Standing w s (begin t n) xs 0 t ks n 0 xs
-  begins w s t n xs ks k l f = record { table = refl; count = refl; good = refl; text = sym (put_none (page xs 0)); keys = k; calls = l; fit = (fit_exactly t).0 f }
+  pub begins : (w : Columns) (s : List ℕ) (t : List Call) (n : ℕ) (xs ks : List ℕ) → ks ≡ keys_in t → length t ≡ 64 → fit_table t ≡ true →
+      Standing w s (begin t n) xs 0 t ks n 0 xs
+  begins w s t n xs ks k l f =
+      record { table = refl; count = refl; good = refl; text = sym (put_none (page xs 0)); keys = k; calls = l; fit = (fit_exactly t).0 f }
 
-  module _ (w : Columns) (s : List ℕ) (p : Past) (r : ℕ) (d : Decoded) (good : true ≡ (after_records node w s p r).good) (read : d ≡ decoded_at node (record_at s (r * 16))) where
+  module _ (w : Columns) (s : List ℕ) (p : Past) (r : ℕ) (d : Decoded) (good : true ≡ (after_records node w s p r).good)
+      (read : d ≡ decoded_at node (record_at s (r * 16))) where
     opened : after_records node w s p (suc r) ≡ on_decoded node w (after_records node w s p r) d
     opened =
-        ap (λ (b : Bool). cond b (on_decoded node w (after_records node w s p r) (decoded_at node (record_at s (r * 16)))) (after_records node w s p r)) (sym good)
+        ap (λ (b : Bool).
+        cond b (on_decoded node w (after_records node w s p r) (decoded_at node (record_at s (r * 16)))) (after_records node w s p r))
+        (sym good)
         ∙ ap (on_decoded node w (after_records node w s p r)) (sym read)
 
-    one_good : (act : Act) → d.request ≡ Asks act → after_records node w s p (suc r) ≡ on_request node w (after_records node w s p r) d.key (Asks act)
+    one_good : (act : Act) → d.request ≡ Asks act →
+        after_records node w s p (suc r) ≡ on_request node w (after_records node w s p r) d.key (Asks act)
     one_good act x = opened ∙ ap (on_request node w (after_records node w s p r) d.key) x
 
     one_bad : d.request ≡ Bad → after_records node w s p (suc r) ≡ on_request node w (after_records node w s p r) d.key Bad
@@ -74,25 +81,38 @@ module _ (node : Node) where
   unfolding on_request
   on_bad w q key = (refl, (refl, (refl, refl)))
 
-  module _ (w : Columns) (s : List ℕ) (p : Past) (xs : List ℕ) (r : ℕ) (t : List Call) (ks : List ℕ) (n at : ℕ) (o : List ℕ) (here : Standing w s p xs r t ks n at o)
+  module _ (w : Columns) (s : List ℕ) (p : Past) (xs : List ℕ) (r : ℕ) (t : List Call) (ks : List ℕ) (n at : ℕ) (o : List ℕ)
+      (here : Standing w s p xs r t ks n at o)
       (d : Decoded) (read : d ≡ decoded_at node (record_at s (r * 16))) (b : ℕ) (z : List ℕ) where
     module _ (act : Act) (x : d.request ≡ Asks act) where
       is : after_records node w s p (suc r) ≡ on_request node w (after_records node w s p r) d.key (Asks act)
       is = one_good w s p r d here.good read act x
 
       -- one line more, of an outcome that is shown
-      more : (o' : Outcome) → o' ≡ shown_of node t d.key act → page z b ≡ put_text (page o at) (line_text w (n + 1) o') → page z b ≡ put_text (page xs 0) (after_records node w s p (suc r)).text
+      more : (o' : Outcome) → o' ≡ shown_of node t d.key act → page z b ≡ put_text (page o at) (line_text w (n + 1) o') →
+          page z b ≡ put_text (page xs 0) (after_records node w s p (suc r)).text
       more o' e put =
-          let same : line_text w (n + 1) o' ≡ line_text w ((after_records node w s p r).count + 1) (shown_of node (after_records node w s p r).table d.key act) =
-          ap (λ (m : ℕ). line_text w (m + 1) o') here.count ∙ ap (line_text w ((after_records node w s p r).count + 1)) (e ∙ ap (λ (y : List Call). shown_of node y d.key act) here.table) in
+          let same : line_text w (n + 1) o'
+          ≡ line_text w ((after_records node w s p r).count + 1) (shown_of node (after_records node w s p r).table d.key act) =
+          ap (λ (m : ℕ). line_text w (m + 1) o') here.count
+          ∙ ap (line_text w ((after_records node w s p r).count + 1))
+          (e ∙ ap (λ (y : List Call). shown_of node y d.key act) here.table) in
           and_then _ _ _ _ _ here.text put
-          ∙ ap (put_text (page xs 0)) (ap (λ (l : List ℕ). (after_records node w s p r).text ++ l) same ∙ sym (ap (λ (y : Past). y.text) is ∙ (on_good w (after_records node w s p r) d.key act).1.0))
+          ∙ ap (put_text (page xs 0))
+          (ap (λ (l : List ℕ). (after_records node w s p r).text ++ l) same
+          ∙ sym (ap (λ (y : Past). y.text) is ∙ (on_good w (after_records node w s p r) d.key act).1.0))
 
-      onward : (t' : List Call) (ks' : List ℕ) → t' ≡ table_of (half_of node) t d.key act → ks' ≡ keys_in t' → length t' ≡ 64 → page z b ≡ put_text (page xs 0) (after_records node w s p (suc r)).text → Standing w s p xs (suc r) t' ks' (n + 1) b z
+      onward : (t' : List Call) (ks' : List ℕ) → t' ≡ table_of (half_of node) t d.key act → ks' ≡ keys_in t' → length t' ≡ 64 →
+          page z b ≡ put_text (page xs 0) (after_records node w s p (suc r)).text → Standing w s p xs (suc r) t' ks' (n + 1) b z
       onward t' ks' et ek l text =
           record {
-            table = et ∙ (ap (λ (y : List Call). table_of (half_of node) y d.key act) here.table ∙ sym (ap (λ (y : Past). y.table) is ∙ (on_good w (after_records node w s p r) d.key act).0));
-            count = ap (λ (m : ℕ). m + 1) here.count ∙ sym (ap (λ (y : Past). y.count) is ∙ (on_good w (after_records node w s p r) d.key act).1.1.0);
+            table =
+                et
+                ∙ (ap (λ (y : List Call). table_of (half_of node) y d.key act) here.table
+                ∙ sym (ap (λ (y : Past). y.table) is ∙ (on_good w (after_records node w s p r) d.key act).0));
+            count =
+                ap (λ (m : ℕ). m + 1) here.count
+                ∙ sym (ap (λ (y : Past). y.count) is ∙ (on_good w (after_records node w s p r) d.key act).1.1.0);
             good = sym (ap (λ (y : Past). y.good) is ∙ (on_good w (after_records node w s p r) d.key act).1.1.1);
             text = text;
             keys = ek;
@@ -107,7 +127,8 @@ module _ (node : Node) where
         place_is : j ≡ place_for (keys_in t) i act
         place_is = place ∙ ap (λ (l : List ℕ). place_for l i act) here.keys
 
-        pub step_in : (o' : Outcome) → j < 64 → o' ≡ worked_on node (get_or t j emptied) d.key act (leb 64 i) → page z b ≡ put_text (page o at) (line_text w (n + 1) o') →
+        pub step_in : (o' : Outcome) → j < 64 → o' ≡ worked_on node (get_or t j emptied) d.key act (leb 64 i) →
+            page z b ≡ put_text (page o at) (line_text w (n + 1) o') →
             Standing w s p xs (suc r) (set t j o'.call) (set ks j o'.call.key) (n + 1) b z
         step_in o' h eo put =
             let m = placed node t here.fit here.calls d.key act i j found_is place_is h in
@@ -122,7 +143,8 @@ module _ (node : Node) where
             onward t ks (sym m.0) here.keys here.calls (more o' (eo ∙ sym m.1) put)
 
   -- after a bad record nothing changes
-  pub still : (w : Columns) (s : List ℕ) (p : Past) (r k : ℕ) → (after_records node w s p r).good ≡ false → after_records node w s p (k + r) ≡ after_records node w s p r
+  pub still : (w : Columns) (s : List ℕ) (p : Past) (r k : ℕ) → (after_records node w s p r).good ≡ false →
+      after_records node w s p (k + r) ≡ after_records node w s p r
   still w s p r zero g = let e : 0 + r ≡ r = omega arith in ap (after_records node w s p) e
   still w s p r (suc k) g =
       let e : suc k + r ≡ suc (k + r) = omega arith in
@@ -130,24 +152,30 @@ module _ (node : Node) where
       ap (after_records node w s p) e ∙ rw (i, g)
 
   -- what a run answers, after m records
-  pub record Answered (w : Columns) (s : List ℕ) (p : Past) (xs : List ℕ) (m : ℕ) (t : List Call) (n : ℕ) (ok : Bool) (at : ℕ) (o : List ℕ) : Type 0 where
+  pub record Answered (w : Columns) (s : List ℕ) (p : Past) (xs : List ℕ) (m : ℕ) (t : List Call) (n : ℕ) (ok : Bool) (at : ℕ)
+      (o : List ℕ) : Type 0 where
     pub table : t ≡ (after_records node w s p m).table
     pub count : n ≡ (after_records node w s p m).count
     pub good : ok ≡ (after_records node w s p m).good
     pub text : page o at ≡ put_text (page xs 0) (after_records node w s p m).text
     pub fit : fit_table t ≡ true
 
-  pub ends : (w : Columns) (s : List ℕ) (p : Past) (xs : List ℕ) (r m : ℕ) (t : List Call) (ks : List ℕ) (n at : ℕ) (o : List ℕ) → Standing w s p xs r t ks n at o → r ≡ m → Answered w s p xs m t n true at o
+  pub ends : (w : Columns) (s : List ℕ) (p : Past) (xs : List ℕ) (r m : ℕ) (t : List Call) (ks : List ℕ) (n at : ℕ) (o : List ℕ) →
+      Standing w s p xs r t ks n at o → r ≡ m → Answered w s p xs m t n true at o
   ends w s p xs r m t ks n at o here e =
       rw (← e) (record { table = here.table; count = here.count; good = here.good; text = here.text; fit = (fit_exactly t).1 here.fit })
 
-  pub ends_bad : (w : Columns) (s : List ℕ) (p : Past) (xs : List ℕ) (r m : ℕ) (t : List Call) (ks : List ℕ) (n at : ℕ) (o : List ℕ) → Standing w s p xs r t ks n at o → r < m →
-      (d : Decoded) → d ≡ decoded_at node (record_at s (r * 16)) → d.request ≡ Bad → (b : ℕ) (z : List ℕ) → page z b ≡ put_text (page o at) bad_line → Answered w s p xs m t n false b z
+  pub ends_bad : (w : Columns) (s : List ℕ) (p : Past) (xs : List ℕ) (r m : ℕ) (t : List Call) (ks : List ℕ) (n at : ℕ) (o : List ℕ) →
+      Standing w s p xs r t ks n at o → r < m →
+      (d : Decoded) → d ≡ decoded_at node (record_at s (r * 16)) → d.request ≡ Bad → (b : ℕ) (z : List ℕ) →
+      page z b ≡ put_text (page o at) bad_line → Answered w s p xs m t n false b z
   ends_bad w s p xs r m t ks n at o here h d read x b z put =
-      let e : after_records node w s p (suc r) ≡ on_request node w (after_records node w s p r) d.key Bad = one_bad w s p r d here.good read x in
+      let e : after_records node w s p (suc r) ≡ on_request node w (after_records node w s p r) d.key Bad =
+      one_bad w s p r d here.good read x in
       let v = on_bad w (after_records node w s p r) d.key in
       let k : m - suc r + suc r ≡ m = omega arith in
-      let u : after_records node w s p m ≡ on_request node w (after_records node w s p r) d.key Bad = ap (after_records node w s p) (sym k) ∙ (still w s p (suc r) (m - suc r) (ap (λ (y : Past). y.good) e ∙ v.1.1.1) ∙ e) in
+      let u : after_records node w s p m ≡ on_request node w (after_records node w s p r) d.key Bad =
+      ap (after_records node w s p) (sym k) ∙ (still w s p (suc r) (m - suc r) (ap (λ (y : Past). y.good) e ∙ v.1.1.1) ∙ e) in
       record {
         table = here.table ∙ sym (ap (λ (y : Past). y.table) u ∙ v.0);
         count = here.count ∙ sym (ap (λ (y : Past). y.count) u ∙ v.1.1.0);

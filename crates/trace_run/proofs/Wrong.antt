@@ -104,7 +104,8 @@ module _ {M : Type 1} {𝓤 : Ura M} (𝓛 : Logic 𝓤) (memory : Memory → SP
   -- the destination takes a setup for an immediate switchover without symmetric soft too, and is in Hard Initiated; the source answers 106
   pub destination_answers_as_the_source :
       (r : Stop) →
-      run_at_shuts_out Destination empty (plain 0 7 ++ (5 ∷ 0 ∷ 0 ∷ 0 ∷ 0 ∷ 0 ∷ 0 ∷ 7 ∷ 0 ∷ 0 ∷ 0 ∷ 3 ∷ 0 ∷ 0 ∷ 0 ∷ 0 ∷ [])) (replicate 26 0) Trace 0 r
+      run_at_shuts_out Destination empty (plain 0 7 ++ (5 ∷ 0 ∷ 0 ∷ 0 ∷ 0 ∷ 0 ∷ 0 ∷ 7 ∷ 0 ∷ 0 ∷ 0 ∷ 3 ∷ 0 ∷ 0 ∷ 0 ∷ 0 ∷ []))
+      (replicate 26 0) Trace 0 r
       (line (ascii "1 0 1 1 0 0") ++ line (ascii "2 106 1 1 0 0"))
   unfolding put_byte put_text spelled number_text numbers_text rest_text line_text on_request record_at shown_of read_from has distinct_of
   destination_answers_as_the_source r κs =
