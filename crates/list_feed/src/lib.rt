@@ -112,9 +112,14 @@ fn list_whole(
     if !write_first(&mut stdout, output, at) {
         return fails(stderr, node, b": writing fails\n");
     }
+    written(count)
+}
+
+// So many records are listed, and their lines are written.
+fn written(listed: u64) -> Progress {
     Progress {
         more: true,
-        listed: count,
+        listed,
         kept: 0,
     }
 }
