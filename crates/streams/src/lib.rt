@@ -1,5 +1,5 @@
-// Octets in and out, in buffers that the caller lends: one read, reads until a buffer is full, and writes of a whole buffer. Of a stream whose
-// octets are known, as one over memory, the contracts say which of them come and go; of one of the system's they say how many came.
+// Octets in and out, in buffers that the caller lends: one read, reads until a buffer is full, and writes of a whole buffer. Of a stream
+// whose octets are known, as one over memory, the contracts say which of them come and go; of one of the system's they say how many came.
 #![tactic(auto)]
 
 ghost use Rattle.std.specs.Prelude.{◌≡◌, length, replicate, take, IfSome};
@@ -24,7 +24,8 @@ pub fn large_buffer() -> [u8; 65536]
     [0; 65536]
 }
 
-// One read: how many octets it put at the front of the buffer, 0 at the end of the input and where there is no room; nothing where it fails.
+// One read: how many octets it put at the front of the buffer, 0 at the end of the input and where there is no room; nothing where it
+// fails.
 pub fn read_some<R: Read>(input: &mut R, buf: &mut [u8]) -> Option<usize>
     ensures within { IfSome result (λ n. IsFrontLen n buf.new) }
     ensures octets { ReadsSome (R.remaining input.old) (R.remaining input.new) result buf.new }
