@@ -3,8 +3,8 @@ use seplogic.Ra.Ura.{Ura}
 use Prim.Native.Nat.{ℕ}
 use mathlib.Core.Path.{◌≡◌, sym, ◌∙◌, refl, ap}
 use mathlib.Core.List.{List}
-use base.Logic.{ent}
-use contract.Monad.{conj, conj_l, conj_r, fact, fact_use, fact_i}
+use base.Logic.{ent, sep, via, snd∗}
+use contract.Monad.{conj, conj_l, conj_r, conj_mono, fact, fact_use, fact_i}
 use Rattle.lines.specs.Lines.{Page, page}
 
 -- the law
@@ -15,6 +15,12 @@ same p q = p ∙ sym q
 pub facts : {M : Type 1} (𝓤 : Ura M) {P Q R : Type 0} → (P → Q → R) → ent 𝓤 (conj 𝓤 (fact 𝓤 P) (fact 𝓤 Q)) (fact 𝓤 R)
 facts 𝓤 {P} {Q} {R} f =
     fact_use 𝓤 P (conj_l 𝓤 (fact 𝓤 P) (fact 𝓤 Q)) (λ p. fact_use 𝓤 Q (conj_r 𝓤 (fact 𝓤 P) (fact 𝓤 Q)) (λ q. fact_i 𝓤 R (conj 𝓤 (fact 𝓤 P) (fact 𝓤 Q)) (f p q)))
+
+-- the same of the last of two clauses
+pub facts_behind : {M : Type 1} (𝓤 : Ura M) {P' P Q' Q R : Type 0} → (P → Q → R) →
+    ent 𝓤 (conj 𝓤 (sep 𝓤 (fact 𝓤 P') (fact 𝓤 P)) (sep 𝓤 (fact 𝓤 Q') (fact 𝓤 Q))) (fact 𝓤 R)
+facts_behind 𝓤 {P'} {P} {Q'} {Q} f =
+    via 𝓤 (conj 𝓤 (fact 𝓤 P) (fact 𝓤 Q)) (conj_mono 𝓤 (snd∗ 𝓤 (fact 𝓤 P') (fact 𝓤 P)) (snd∗ 𝓤 (fact 𝓤 Q') (fact 𝓤 Q))) (facts 𝓤 f)
 
 pub pairs : {A B : Type 0} {p q : A × B} → p.0 ≡ q.0 → p.1 ≡ q.1 → p ≡ q
 pairs e f i = (e i, f i)

@@ -2,6 +2,7 @@ pub mod Law
 pub mod Admission
 pub mod Distinct
 pub mod Lines
+pub mod Streams
 pub mod Signal
 pub mod SignalWords
 pub mod Rows
