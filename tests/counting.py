@@ -20,6 +20,11 @@ RED_ZONE = 128  # what a function may use below the stack pointer on x86-64, if 
 LIBRARY = "the C library"
 
 
+def built(name):
+    """Where `rt ci`, and `rt run` in the program's folder, leave a proved program."""
+    return os.path.join(ROOT, "crates", name, "out", name)
+
+
 def fail(what):
     sys.exit(f"{os.path.basename(sys.argv[0])}: {what}")
 
