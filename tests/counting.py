@@ -34,10 +34,16 @@ def tell(what):
     print(f"{os.path.basename(sys.argv[0])}: {what}", file=sys.stderr, flush=True)
 
 
+def program_of(name):
+    """Where a proved program is built."""
+    return os.path.join(ROOT, "crates", name, "out", name)
+
+
 def toolchain():
-    """The folder of the kit's tools for this machine."""
+    """The folder of the kit's tools for this machine, where it is no x86-64."""
     guide = subprocess.run(["rt", "doc"], capture_output=True, text=True, check=True).stdout.strip()
-    return os.path.join(os.path.dirname(os.path.dirname(guide)), "on", platform.machine(), "toolchain")
+    folder = os.path.join(os.path.dirname(guide), "on", platform.machine(), "toolchain")
+    return folder if os.path.isdir(folder) else fail("this kit has no emulator for this machine, and programs are compiled for x86-64")
 
 
 class Machine:
