@@ -20,11 +20,6 @@ RED_ZONE = 128  # what a function may use below the stack pointer on x86-64, if 
 LIBRARY = "the C library"
 
 
-def built(name):
-    """Where `rt ci`, and `rt run` in the program's folder, leave a proved program."""
-    return os.path.join(ROOT, "crates", name, "out", name)
-
-
 def fail(what):
     sys.exit(f"{os.path.basename(sys.argv[0])}: {what}")
 
@@ -35,7 +30,7 @@ def tell(what):
 
 
 def program_of(name):
-    """Where a proved program is built."""
+    """Where `rt ci`, and `rt run` in the program's folder, leave a proved program."""
     return os.path.join(ROOT, "crates", name, "out", name)
 
 

@@ -71,6 +71,10 @@ class Program:
             fail(f"{self.path}: {name} is no function of its own")
         return MOVED + places[name]
 
+    def start(self):
+        """Where what is proved of the program begins, behind what the compiler puts before it in `main`."""
+        return self.place(next((name for name, _ in self.named(SYMBOLS) if name.endswith("::main+start")), "main"))
+
 
 class Run:
     """One run of a program. `load` and `store` are told place and size of each access, `step` of each instruction."""
@@ -212,13 +216,13 @@ class Run:
         self.returns(size)
 
     def go(self):
-        """From the first instruction of `main` to its return: what was printed."""
+        """From the first instruction of the program to its return: what was printed."""
         top = STACK + STACK_SIZE - PAGE
         end = self.stub(self.machine.emu_stop)
         self.put_place(top - 8, end)
         self.machine.reg_write(self.registers.UC_X86_REG_RSP, top - 8)
         try:
-            self.machine.emu_start(self.program.place("main"), end)
+            self.machine.emu_start(self.program.start(), end)
         except self.unicorn.UcError as fault:
             self.fault = self.fault or fault
         if self.fault:
