@@ -20,7 +20,7 @@ AtAnyModel M Made = (𝓤 : Ura M) → (𝓛 : Logic 𝓤) → (Memory → SProp
 -- T has a function's parameters and its result, `clauses` its `requires` and `ensures`, and `spec` is what its theorem says that it meets.
 -- First, `spec` is these clauses and nothing else. Then, whatever the arguments: where the `ensures` holds of an answer r with `left` in
 -- the lent memory at exit, and also of an answer s with `other` there, r is s and `left` is `other`; that is a fact of the logic, as each
--- `⌜ .. ⌝` of a contract is. `Lasts` holds the contents at exit of each `&mut` parameter, so that none is left out
+-- plain clause of a contract is. `Lasts` holds the contents at exit of each `&mut` parameter, so that none is left out
 abbrev pub OneAnswer : (M : Type 1) (T : Ended) → AtAnyModel M (λ 𝓤. Clauses 𝓤 T) → AtAnyModel M (λ 𝓤. Spec 𝓤 T.signature) → Type 2
 OneAnswer M T clauses spec = (𝓤 : Ura M) (𝓛 : Logic 𝓤) (memory : Memory → SProp 𝓤) (run : Routine → Fun 𝓤) →
     (spec 𝓤 𝓛 memory run ≡ closing 𝓛 T (clauses 𝓤 𝓛 memory run)) ×

@@ -5,7 +5,7 @@ use Prim.Native.Nat.{ℕ, zero, suc}
 use native.Mathlib.Omega.{arith}
 use mathlib.Core.Bool.{Bool, true, false}
 use mathlib.Core.List.{List, [], ◌∷◌}
-use mathlib.Core.Path.{◌≡◌, ap, subst}
+use mathlib.Core.Path.{◌≡◌, ap, refl, subst}
 use lib.ListN.{get_or, length}
 use seplogic.Ra.Ura.{Ura}
 use base.Logic.{SProp, ent}
@@ -20,7 +20,7 @@ use types.Logic.{Logic}
 use prog.Memory.{Memory}
 use prog.Routine.{Routine}
 use Rattle.std.specs.Prelude.{Option, None, Some, ◌<◌, ◌≤◌, take}
-use Rattle.std.specs.Io.KnownBytes.{Appends, Consumes, Keeps}
+use Rattle.std.specs.Io.KnownBytes.{Appends, Consumes, IsAtEnd, Keeps}
 use Rattle.std.specs.declared.io.traits.Read as Read
 use Rattle.std.specs.declared.io.traits.Write as Write
 use Rattle.streams.specs.contracts.buffer as buffer
@@ -107,6 +107,13 @@ module _ {M : Type 1} {𝓤 : Ura M} (𝓛 : Logic 𝓤) (memory : Memory → SP
   failed_read_takes_an_octet R reads dict input rest left before after κs = second_fails _ _ (λ h.
       let kept = subst (λ new. Keeps (Some (1 ∷ 2 ∷ [])) new) after (subst (λ old. Keeps old (reads.remaining rest)) before h) in
       let z : ◌≡◌ {A = ℕ} 2 1 = ap (λ (xs : List ℕ). get_or xs 0 0) kept in omega arith)
+
+  -- where there is room, none came only at the end of the stream, and this one has three octets more
+  pub none_came_before_the_end : (R : RattleType) (reads : Read.Ghosts R.Denot) (dict : Dict) (input rest : R.Denot) (left : List ℕ) →
+      reads.remaining rest ≡ Some (1 ∷ 2 ∷ 3 ∷ []) → length left ≡ 2 → read_some_shuts_out R reads dict input (0 ∷ 0 ∷ []) (Some 0) rest left
+  none_came_before_the_end R reads dict input rest left after room κs = second_fails _ _ (λ h.
+      let ended = subst (λ new. IsAtEnd new) after (h.1 refl (omega arith)) in
+      let z : ◌≡◌ {A = ℕ} 3 0 = ap (λ (xs : List ℕ). length xs) ended in omega arith)
 
   -- read_full: the same, but that it answers a number always
   abbrev read_full_shuts_out : (R : RattleType) → Read.Ghosts R.Denot → Dict → R.Denot → List ℕ → ℕ → R.Denot → List ℕ → Type 1
