@@ -11,10 +11,10 @@ use contract.Monad.{Fun, fact, fact_mono}
 use types.Logic.{Logic}
 use prog.Memory.{Memory}
 use prog.Routine.{Routine}
+use Rattle.std.specs.Prelude.{None}
 use Rattle.signal.specs.Numbers.{answer_number}
 use Rattle.signal.specs.declared.Answer.{Answer}
 use Rattle.signal.specs.declared.Answer.TheVariants.{Done, KeyNotOnRecord, KeyOnRecord, NoEmptyRecord}
-use Rattle.signal.specs.declared.Wanted.TheVariants.{Unnamed}
 use Rattle.events.specs.declared.Act.{Act}
 use Rattle.events.specs.declared.Act.TheVariants.{Meets, Opens}
 use Rattle.events.specs.declared.Event.TheVariants.{Trigger}
@@ -47,11 +47,11 @@ module _ {M : Type 1} {𝓤 : Ura M} (𝓛 : Logic 𝓤) (memory : Memory → SP
       NeverHolds ((admit.clauses 𝓛 memory run tt (key, (act, (missing, (full, tt))))).ensures tt r (key, (act, (missing, (full, tt)))))
 
   -- key 0 opens no call (01, 102)
-  pub key_0_takes_a_record : admit_shuts_out 0 (Opens Unnamed) true false (Takes Unnamed)
+  pub key_0_takes_a_record : admit_shuts_out 0 (Opens None) true false (Takes None)
   key_0_takes_a_record = fact_mono 𝓤 _ _ (λ h. let z : ◌≡◌ {A = ℕ} 0 _ = ap refusal_number h in omega arith)
 
   -- nor does a key that is on record (01, 103)
-  pub key_on_record_takes_a_record : admit_shuts_out 7 (Opens Unnamed) false false (Takes Unnamed)
+  pub key_on_record_takes_a_record : admit_shuts_out 7 (Opens None) false false (Takes None)
   key_on_record_takes_a_record = fact_mono 𝓤 _ _ (λ h. let z : ◌≡◌ {A = ℕ} 0 _ = ap refusal_number h in omega arith)
 
   -- an event whose key is not on record goes to no record, not even to an empty one (01, 105)

@@ -1,9 +1,9 @@
 -- What the keys of a table say of an opening or event (01, "Numbers of refusal", 102 to 105), of plain values: the key, whether it is
 -- missing from the table, and whether the table is full, so that no record is empty. Assumes nothing.
-use Rattle.std.specs.Prelude.{ℕ, Bool, cond, eqb}
+use Rattle.std.specs.Prelude.{ℕ, Bool, cond, eqb, Option}
 use Rattle.signal.specs.declared.Answer.{Answer}
 use Rattle.signal.specs.declared.Answer.TheVariants.{Done, KeyNotOnRecord, KeyOnRecord, KeyZero, NoEmptyRecord}
-use Rattle.signal.specs.declared.Wanted.{Wanted}
+use Rattle.signal.specs.declared.Services.{Services}
 use Rattle.events.specs.declared.Act.{Act}
 use Rattle.events.specs.declared.Act.TheVariants.{Meets, Opens}
 use Rattle.events.specs.declared.Event.{Event}
@@ -17,7 +17,7 @@ refusal_in (Takes wanted) = Done
 refusal_in (Reaches e) = Done
 
 -- 103 where the key is on record, before 104 (decision 14)
-abbrev pub opening_admitted : Wanted → Bool → Bool → Admission
+abbrev pub opening_admitted : Option Services → Bool → Bool → Admission
 opening_admitted wanted missing full = cond missing (cond full (Refuses NoEmptyRecord) (Takes wanted)) (Refuses KeyOnRecord)
 
 -- 105 where the key is not on record

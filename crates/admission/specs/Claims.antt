@@ -1,7 +1,7 @@
 -- What is claimed of an admission, for a reader who does not want to follow its tests. Proofs: proofs/Claims.antt. Assumes nothing.
-use Rattle.std.specs.Prelude.{ℕ, Bool, false, true, ◌↔◌, ◌≡◌}
+use Rattle.std.specs.Prelude.{ℕ, Bool, false, true, ◌↔◌, ◌≡◌, Option}
 use Rattle.signal.specs.Numbers.{answer_number}
-use Rattle.signal.specs.declared.Wanted.{Wanted}
+use Rattle.signal.specs.declared.Services.{Services}
 use Rattle.events.specs.declared.Act.{Act}
 use Rattle.events.specs.declared.Act.TheVariants.{Meets, Opens}
 use Rattle.events.specs.declared.Event.{Event}
@@ -20,13 +20,13 @@ Refused102 = (key : ℕ) (act : Act) (missing full : Bool) → (refusal_number (
 -- 01, 103: an opening, exactly where its key is on record.
 abbrev pub Refused103 : Type 0
 Refused103 =
-    (key : ℕ) (wanted : Wanted) (missing full : Bool) → (key ≡ 0 → ⊥) →
+    (key : ℕ) (wanted : Option Services) (missing full : Bool) → (key ≡ 0 → ⊥) →
     (refusal_number (admission_of key (Opens wanted) missing full) ≡ 103) ↔ (missing ≡ false)
 
 -- 01, 104: an opening, exactly where its key is not on record and no record is empty.
 abbrev pub Refused104 : Type 0
 Refused104 =
-    (key : ℕ) (wanted : Wanted) (missing full : Bool) → (key ≡ 0 → ⊥) →
+    (key : ℕ) (wanted : Option Services) (missing full : Bool) → (key ≡ 0 → ⊥) →
     (refusal_number (admission_of key (Opens wanted) missing full) ≡ 104) ↔ ((missing ≡ true) × (full ≡ true))
 
 -- 01, 105: an event, exactly where its key is not on record.
@@ -38,7 +38,7 @@ Refused105 =
 -- 01, "The table and its records": what is not refused goes on as it came, an opening to an empty record and an event to the record of its
 -- key.
 abbrev pub OpeningGoesOn : Type 0
-OpeningGoesOn = (key : ℕ) (wanted : Wanted) → (key ≡ 0 → ⊥) → admission_of key (Opens wanted) true false ≡ Takes wanted
+OpeningGoesOn = (key : ℕ) (wanted : Option Services) → (key ≡ 0 → ⊥) → admission_of key (Opens wanted) true false ≡ Takes wanted
 
 abbrev pub EventGoesOn : Type 0
 EventGoesOn = (key : ℕ) (e : Event) (full : Bool) → (key ≡ 0 → ⊥) → admission_of key (Meets e) false full ≡ Reaches e

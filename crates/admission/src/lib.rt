@@ -6,13 +6,13 @@ ghost use Rattle.std.specs.Prelude.{◌≡◌};
 ghost use Rattle.admission.specs.Admission.{refusal_in, opening_admitted, event_admitted, admission_of};
 
 use events::{Act, Event};
-use signal::{Answer, Wanted};
+use signal::{Answer, Services};
 
 #[derive(Clone, Copy)]
 pub enum Admission {
     Refuses(Answer),
     // an opening takes the lowest empty record
-    Takes(Wanted),
+    Takes(Option<Services>),
     // an event goes to the record of its key
     Reaches(Event),
 }
@@ -31,7 +31,7 @@ impl Admission {
 }
 
 // 103, then 104.
-fn on_opening(wanted: Wanted, missing: bool, full: bool) -> Admission
+fn on_opening(wanted: Option<Services>, missing: bool, full: bool) -> Admission
     ensures { result ≡ opening_admitted wanted missing full }
 {
     if missing {

@@ -2,8 +2,8 @@
 -- events of both ends. Assumes nothing.
 use mathlib.Core.Bool.{false}
 use mathlib.Core.Path.{◌≡◌, ap}
+use Rattle.std.specs.Prelude.{None}
 use Rattle.signal.specs.Numbers.{fresh_after}
-use Rattle.signal.specs.declared.Fresh.TheVariants.{Spent}
 use Rattle.events.specs.Events.{number_brought, received_in}
 use Rattle.events.specs.declared.Event.{Event}
 use Rattle.rows.proofs.Page.{Page, next_is, none_is}
@@ -21,7 +21,7 @@ half_by p = record { demands = p.demands; does = done_by p.demands.node p.page }
 module _ (p : Page) (c : Call) (e : Event) where
   -- an event that gives no number
   pub quiet_is : may_give (happening_of c.state c.remote e) ≡ false →
-      carried_out c (number_brought e) (carried_at p.demands.node c.state Spent (received_in e) (p.page (case_of (standing c) e))) ≡ handled_at (half_by p) c e
+      carried_out c (number_brought e) (carried_at p.demands.node c.state None (received_in e) (p.page (case_of (standing c) e))) ≡ handled_at (half_by p) c e
   quiet_is never = ap (carried_out c (number_brought e)) (none_is p (standing c) e never)
 
   -- and one that may give the next

@@ -12,6 +12,7 @@ use contract.Monad.{Fun, fact, fact_mono}
 use types.Logic.{Logic}
 use prog.Memory.{Memory}
 use prog.Routine.{Routine}
+use Rattle.std.specs.Prelude.{Option, None}
 use Rattle.call.specs.declared.Call.{Call}
 use Rattle.call.specs.declared.Outcome.{Outcome}
 use Rattle.events.specs.declared.Event.TheVariants.{Connect, FromParty, PathFound, Setup}
@@ -27,14 +28,12 @@ use Rattle.signal.specs.Numbers.{answer_number}
 use Rattle.signal.specs.Signals.{none}
 use Rattle.signal.specs.declared.Crankback.TheVariants.{AlternateFound, NoCrankback}
 use Rattle.signal.specs.declared.Crankback.{Crankback}
-use Rattle.signal.specs.declared.ReceivedCause.TheVariants.{NoCause}
-use Rattle.signal.specs.declared.ReceivedCause.{ReceivedCause}
+use Rattle.signal.specs.declared.ReroutingCause.{ReroutingCause}
+use Rattle.signal.specs.declared.Services.{Services}
 use Rattle.signal.specs.declared.SentCause.TheVariants.{Numbered}
 use Rattle.signal.specs.declared.SentCause.{SentCause}
 use Rattle.signal.specs.declared.Soft.TheVariants.{Symmetric}
 use Rattle.signal.specs.declared.Switchover.{Switchover}
-use Rattle.signal.specs.declared.Wanted.TheVariants.{Unnamed}
-use Rattle.signal.specs.declared.Wanted.{Wanted}
 use Rattle.call.specs.contracts.Call.opened as Call-opened
 use Rattle.call.specs.contracts.Call.trigger as Call-trigger
 use Rattle.call.specs.contracts.Call.path_found as Call-path_found
@@ -68,16 +67,16 @@ module _ {M : Type 1} {𝓤 : Ura M} (𝓛 : Logic 𝓤) (memory : Memory → SP
   NeverHolds says = ent 𝓤 says (fact 𝓤 ⊥)
 
   -- opened: of a key and the services, what comes of an opening
-  abbrev opened_shuts_out : ℕ → Wanted → Outcome → Type 1
+  abbrev opened_shuts_out : ℕ → Option Services → Outcome → Type 1
   opened_shuts_out key wanted r =
       NeverHolds ((Call-opened.clauses 𝓛 memory run tt (key, (wanted, tt))).ensures tt r (key, (wanted, tt)))
 
   -- the incumbent takes number 1, and 1 is the last (01, "The table and its records"; B1)
-  pub opening_gives_two_numbers : (r : Outcome) → r.call.last ≡ 2 → opened_shuts_out 7 Unnamed r
+  pub opening_gives_two_numbers : (r : Outcome) → r.call.last ≡ 2 → opened_shuts_out 7 None r
   opening_gives_two_numbers r w =
       fact_mono 𝓤 _ _ (λ h. let z : ◌≡◌ {A = ℕ} _ 2 = sym (ap (λ (r : Outcome). r.call.last) h) ∙ w in omega arith)
 
-  pub opening_forgets_the_key : (r : Outcome) → r.call.key ≡ 0 → opened_shuts_out 7 Unnamed r
+  pub opening_forgets_the_key : (r : Outcome) → r.call.key ≡ 0 → opened_shuts_out 7 None r
   opening_forgets_the_key r w =
       fact_mono 𝓤 _ _ (λ h. let z : ◌≡◌ {A = ℕ} _ 0 = sym (ap (λ (r : Outcome). r.call.key) h) ∙ w in omega arith)
 
@@ -200,26 +199,26 @@ module _ {M : Type 1} {𝓤 : Ura M} (𝓛 : Logic 𝓤) (memory : Memory → SP
       fact_mono 𝓤 _ _ (λ h. let z : ◌≡◌ {A = ℕ} _ 7 = sym (ap (λ (r : Outcome). r.call.key) h) ∙ w in omega arith)
 
   -- calling_release: of a call and a cause, what comes of a release from the calling side
-  abbrev calling_release_shuts_out : Call → ReceivedCause → Outcome → Type 1
+  abbrev calling_release_shuts_out : Call → Option ReroutingCause → Outcome → Type 1
   calling_release_shuts_out c cause r =
       NeverHolds ((Call-calling_release.clauses 𝓛 memory run tt (c, (cause, tt))).ensures tt r (c, (cause, tt)))
 
   -- a call that ends is emptied
-  pub calling_release_keeps_the_record : (r : Outcome) → r.call.key ≡ 7 → calling_release_shuts_out (standing (Idle 3)) NoCause r
+  pub calling_release_keeps_the_record : (r : Outcome) → r.call.key ≡ 7 → calling_release_shuts_out (standing (Idle 3)) None r
   calling_release_keeps_the_record r w =
       fact_mono 𝓤 _ _ (λ h. let z : ◌≡◌ {A = ℕ} _ 7 = sym (ap (λ (r : Outcome). r.call.key) h) ∙ w in omega arith)
 
   -- the release goes on (01, "Release from the calling side")
   pub calling_release_sends_nothing :
       (r : Outcome) → kind_number (get_or r.signals 0 none).kind ≡ 0 →
-      calling_release_shuts_out (standing (Idle 3)) NoCause r
+      calling_release_shuts_out (standing (Idle 3)) None r
   calling_release_sends_nothing r w =
       fact_mono 𝓤 _ _ (λ h.
       let z : ◌≡◌ {A = ℕ} _ 0 = sym (ap (λ (r : Outcome). kind_number (get_or r.signals 0 none).kind) h) ∙ w in
       omega arith)
 
   -- called_release: of a call, a connection, a cause and a crankback, what comes of a release from the called side
-  abbrev called_release_shuts_out : Call → ℕ → ReceivedCause → Crankback → Outcome → Type 1
+  abbrev called_release_shuts_out : Call → ℕ → Option ReroutingCause → Crankback → Outcome → Type 1
   called_release_shuts_out c connection cause back r =
       NeverHolds ((Call-called_release.clauses 𝓛 memory run tt (c, (connection, (cause, (back, tt))))
       ).ensures tt r (c, (connection, (cause, (back, tt)))))
@@ -227,14 +226,14 @@ module _ {M : Type 1} {𝓤 : Ura M} (𝓛 : Logic 𝓤) (memory : Memory → SP
   -- an alternate that was found takes a number (01, Soft Proceeding, rerouting)
   pub called_release_forgets_crankback :
       (r : Outcome) → r.call.last ≡ 5 →
-      called_release_shuts_out (standing (SoftProceeding 3 5)) 5 NoCause AlternateFound r
+      called_release_shuts_out (standing (SoftProceeding 3 5)) 5 None AlternateFound r
   called_release_forgets_crankback r w =
       fact_mono 𝓤 _ _ (λ h. let z : ◌≡◌ {A = ℕ} _ 5 = sym (ap (λ (r : Outcome). r.call.last) h) ∙ w in omega arith)
 
   -- with hard on the call is rerouted (01, D17)
   pub called_release_takes_hard_for_off :
       (r : Outcome) → state_number r.call.state ≡ 0 →
-      called_release_shuts_out (standing (Idle 3)) 3 NoCause NoCrankback r
+      called_release_shuts_out (standing (Idle 3)) 3 None NoCrankback r
   called_release_takes_hard_for_off r w =
       fact_mono 𝓤 _ _ (λ h. let z : ◌≡◌ {A = ℕ} _ 0 = sym (ap (λ (r : Outcome). state_number r.call.state) h) ∙ w in omega arith)
 
@@ -393,21 +392,21 @@ module _ {M : Type 1} {𝓤 : Ura M} (𝓛 : Logic 𝓤) (memory : Memory → SP
       omega arith)
 
   -- destination_called_release: of a call and a cause, what comes of a release from the called side
-  abbrev destination_called_release_shuts_out : Call → ReceivedCause → Outcome → Type 1
+  abbrev destination_called_release_shuts_out : Call → Option ReroutingCause → Outcome → Type 1
   destination_called_release_shuts_out c came r =
       NeverHolds ((Call-destination_called_release.clauses 𝓛 memory run tt (c, (came, tt))).ensures tt r (c, (came, tt)))
 
   -- a call that ends is emptied
   pub destination_called_release_keeps_the_record :
       (r : Outcome) → r.call.key ≡ 7 →
-      destination_called_release_shuts_out (standing (Idle 3)) NoCause r
+      destination_called_release_shuts_out (standing (Idle 3)) None r
   destination_called_release_keeps_the_record r w =
       fact_mono 𝓤 _ _ (λ h. let z : ◌≡◌ {A = ℕ} _ 7 = sym (ap (λ (r : Outcome). r.call.key) h) ∙ w in omega arith)
 
   -- in Soft Triggered no Rerouting cause goes on, where the source's would be #1 (6.3.4.7; decision 65)
   pub destination_sends_1_in_soft_triggered :
       (r : Outcome) → (get_or r.signals 0 none).cause ≡ Numbered (cause 1) →
-      destination_called_release_shuts_out (standing (SoftTriggered 3)) NoCause r
+      destination_called_release_shuts_out (standing (SoftTriggered 3)) None r
   destination_sends_1_in_soft_triggered r w =
       fact_mono 𝓤 _ _ (λ h.
       let y : ◌≡◌ {A = SentCause} _ (Numbered (cause 1)) = sym (ap (λ (r : Outcome). (get_or r.signals 0 none).cause) h) ∙ w in
@@ -415,7 +414,7 @@ module _ {M : Type 1} {𝓤 : Ura M} (𝓛 : Logic 𝓤) (memory : Memory → SP
       omega arith)
 
   -- destination_calling_release: of a call, a connection, a cause and a crankback, what comes of a release from the calling side
-  abbrev destination_calling_release_shuts_out : Call → ℕ → ReceivedCause → Crankback → Outcome → Type 1
+  abbrev destination_calling_release_shuts_out : Call → ℕ → Option ReroutingCause → Crankback → Outcome → Type 1
   destination_calling_release_shuts_out c connection came back r =
       NeverHolds ((Call-destination_calling_release.clauses 𝓛 memory run tt (c, (connection, (came, (back, tt))))
       ).ensures tt r (c, (connection, (came, (back, tt)))))
@@ -423,14 +422,14 @@ module _ {M : Type 1} {𝓤 : Ura M} (𝓛 : Logic 𝓤) (memory : Memory → SP
   -- with hard on the call waits for a hard setup (6.3.4.2 case 4)
   pub destination_takes_hard_for_off :
       (r : Outcome) → state_number r.call.state ≡ 0 →
-      destination_calling_release_shuts_out (standing (Idle 3)) 3 NoCause NoCrankback r
+      destination_calling_release_shuts_out (standing (Idle 3)) 3 None NoCrankback r
   destination_takes_hard_for_off r w =
       fact_mono 𝓤 _ _ (λ h. let z : ◌≡◌ {A = ℕ} _ 0 = sym (ap (λ (r : Outcome). state_number r.call.state) h) ∙ w in omega arith)
 
   -- an alternate that was found takes a number (6.3.4.8 case 5; decision 69)
   pub destination_forgets_crankback :
       (r : Outcome) → r.call.last ≡ 5 →
-      destination_calling_release_shuts_out (standing (SoftProceeding 3 5)) 5 NoCause AlternateFound r
+      destination_calling_release_shuts_out (standing (SoftProceeding 3 5)) 5 None AlternateFound r
   destination_forgets_crankback r w =
       fact_mono 𝓤 _ _ (λ h. let z : ◌≡◌ {A = ℕ} _ 5 = sym (ap (λ (r : Outcome). r.call.last) h) ∙ w in omega arith)
 
@@ -451,7 +450,7 @@ module _ {M : Type 1} {𝓤 : Ura M} (𝓛 : Logic 𝓤) (memory : Memory → SP
   -- the party is the called one, by whose release the call ends (6.3.4.2 case 2)
   pub destination_waits_where_its_party_released :
       (r : Outcome) → state_number r.call.state ≡ 2 →
-      at_destination_shuts_out (standing (Idle 3)) (FromParty NoCause) r
+      at_destination_shuts_out (standing (Idle 3)) (FromParty None) r
   destination_waits_where_its_party_released r w =
       fact_mono 𝓤 _ _ (λ h. let z : ◌≡◌ {A = ℕ} _ 2 = sym (ap (λ (r : Outcome). state_number r.call.state) h) ∙ w in omega arith)
 

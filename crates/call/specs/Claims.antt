@@ -4,7 +4,7 @@
 -- that does what its half of the control does: `Returned` is the contract of `Call::handle`, and of the event's own method at the end.
 -- Proofs, once for any half that keeps the laws: proofs/Claims.antt; for the ends: proofs/Source.antt, proofs/Destination.antt. Assumes
 -- nothing.
-use Rattle.std.specs.Prelude.{◌+◌, ◌<◌, ◌≤◌, ℕ, Bool, cond, false, not, true, List, [], ◌++◌, ◌∷◌, ◌↔◌, ◌⊎◌, ◌≡◌, ltb, length}
+use Rattle.std.specs.Prelude.{◌+◌, ◌<◌, ◌≤◌, ℕ, Bool, cond, false, not, true, List, [], ◌++◌, ◌∷◌, ◌↔◌, ◌⊎◌, ◌≡◌, ltb, length, Option}
 use Rattle.signal.specs.Causes.{in_progress}
 use Rattle.signal.specs.Claims.{TakesServices}
 use Rattle.signal.specs.Counting.{Honest, count, ended_sent, in_order, named, of_kind, with_code21}
@@ -14,7 +14,7 @@ use Rattle.signal.specs.declared.Kind.TheVariants.{ConnectRequest, IncumbentRele
 use Rattle.signal.specs.declared.Kind.TheVariants.{Switch, TimerStart, TimerStop}
 use Rattle.signal.specs.declared.Signal.{Signal}
 use Rattle.signal.specs.declared.Switchover.{Switchover}
-use Rattle.signal.specs.declared.Wanted.{Wanted}
+use Rattle.signal.specs.declared.Services.{Services}
 use Rattle.events.specs.Events.{is_expiry, received_in, reported, setup_number}
 use Rattle.events.specs.declared.Event.{Event}
 use Rattle.events.specs.declared.Node.{Node}
@@ -54,7 +54,7 @@ RejectedLeaving left o r = (answer_given o ≡ 0) × ((o.call ≡ left) × (o.si
 -- 01, "The table and its records": an opening gives number 1 to the incumbent, in Rerouting Idle, with remote number 0, and sends nothing.
 abbrev pub OpensWithOne : Type 0
 OpensWithOne =
-    (key : ℕ) (wanted : Wanted) (o : Outcome) → o ≡ opened_for key wanted →
+    (key : ℕ) (wanted : Option Services) (o : Outcome) → o ≡ opened_for key wanted →
     (answer_given o ≡ 0)
     × ((o.signals ≡ places [])
     × ((o.call.key ≡ key) × ((o.call.state ≡ Idle 1) × ((o.call.last ≡ 1) × (o.call.remote ≡ 0)))))
@@ -62,7 +62,7 @@ OpensWithOne =
 -- 01, "The table and its records"; 02, Ask 1: an opening's record has the services that it names, or the default.
 abbrev pub OpensWithServices : Type 0
 OpensWithServices =
-    (key : ℕ) (wanted : Wanted) (o : Outcome) → o ≡ opened_for key wanted →
+    (key : ℕ) (wanted : Option Services) (o : Outcome) → o ≡ opened_for key wanted →
     TakesServices wanted o.call.hard o.call.soft
 
 -- a number, or the one number of a list

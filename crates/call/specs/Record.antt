@@ -1,13 +1,11 @@
 -- The record of a call (01, "The table and its records"), at either end, and how the effect of an event is carried out on it.
 -- Assumes nothing.
-use Rattle.std.specs.Prelude.{ℕ, Bool, cond, false, []}
+use Rattle.std.specs.Prelude.{ℕ, Bool, cond, false, [], Option, None, Some}
 use Rattle.signal.specs.Numbers.{fresh_after, services_of}
 use Rattle.signal.specs.Signals.{places}
 use Rattle.signal.specs.declared.Answer.TheVariants.{Done}
-use Rattle.signal.specs.declared.Fresh.{Fresh}
-use Rattle.signal.specs.declared.Fresh.TheVariants.{Next, Spent}
+use Rattle.signal.specs.declared.Services.{Services}
 use Rattle.signal.specs.declared.Soft.TheVariants.{NoSoft}
-use Rattle.signal.specs.declared.Wanted.{Wanted}
 use Rattle.rows.specs.Cases.{Standing}
 use Rattle.rows.specs.Rules.{is_done}
 use Rattle.rows.specs.States.{is_null}
@@ -30,9 +28,9 @@ abbrev pub moved_to : Call → State → ℕ → ℕ → Call
 moved_to c s last remote = record { key = c.key; hard = c.hard; soft = c.soft; state = s; last = last; remote = remote }
 
 -- the last number after one was given: the next; where there is none nothing gives one
-abbrev pub number_or : Fresh → ℕ → ℕ
-number_or (Next n) last = n
-number_or Spent last = last
+abbrev pub number_or : Option ℕ → ℕ → ℕ
+number_or (Some n) last = n
+number_or None last = last
 
 abbrev pub last_given : ℕ → ℕ
 last_given last = number_or (fresh_after last) last
@@ -55,7 +53,7 @@ carried_out c number f =
     }
 
 -- an opening: number 1 for its incumbent, state Rerouting Idle, remote number 0, the services that it names or the default
-abbrev pub opened_for : ℕ → Wanted → Outcome
+abbrev pub opened_for : ℕ → Option Services → Outcome
 opened_for k w =
     record {
       answer = Done;

@@ -6,7 +6,7 @@ ghost use Rattle.call.specs.Events.{destination_half, handled_at};
 
 use crate::{Call, Outcome};
 use events::{Event, Node};
-use signal::{Crankback, Fresh, ReceivedCause, SentCause, Switchover};
+use signal::{Crankback, ReroutingCause, SentCause, Switchover};
 
 impl Call {
     pub fn destination_trigger(self) -> Outcome
@@ -23,7 +23,7 @@ impl Call {
         let state = self.state;
         self.carried(
             0,
-            destination_requests::path_row(Fresh::after(self.last), state),
+            destination_requests::path_row(signal::fresh_after(self.last), state),
         )
     }
 
@@ -52,7 +52,7 @@ impl Call {
         let soft = self.soft;
         let state = self.state;
         let remote = self.remote;
-        let next = Fresh::after(self.last);
+        let next = signal::fresh_after(self.last);
         self.carried(
             number,
             destination_setups::setup_row(hard, soft, code, number, remote, next, state),
@@ -74,7 +74,7 @@ impl Call {
     }
 
     // In Soft Triggered no Rerouting cause goes on (6.3.4.7, 6.3.4.1).
-    pub fn destination_called_release(self, cause: ReceivedCause) -> Outcome
+    pub fn destination_called_release(self, cause: Option<ReroutingCause>) -> Outcome
         ensures { result ≡ handled_at destination_half self (FromParty cause) }
     {
         let state = self.state;
@@ -87,13 +87,13 @@ impl Call {
     pub fn destination_calling_release(
         self,
         connection: u16,
-        cause: ReceivedCause,
+        cause: Option<ReroutingCause>,
         crankback: Crankback,
     ) -> Outcome
         ensures { result ≡ handled_at destination_half self (FromDomain connection cause crankback) }
     {
         let state = self.state;
-        let next = Fresh::after(self.last);
+        let next = signal::fresh_after(self.last);
         self.carried(
             0,
             destination_releases::calling_row(self.hard, connection, cause, crankback, next, state),

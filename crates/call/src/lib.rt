@@ -15,7 +15,7 @@ ghost use Rattle.call.specs.Events.{half_of, handled_at};
 
 use events::{Event, Node};
 use rows::{Effect, State};
-use signal::{Answer, Fresh, Signal, Soft, Wanted};
+use signal::{Answer, Services, Signal, Soft};
 
 // The key comes first: 0 marks an empty record.
 #[derive(Clone, Copy)]
@@ -63,7 +63,7 @@ impl Call {
     fn after(self, number: u32, state: State, gives: bool, stores: bool) -> Call
         ensures { result ≡ call_done self number state gives stores }
     {
-        if state.number() == 0 {
+        if matches!(state, State::Null) {
             return Call::EMPTY;
         }
         let last = last_after(self.last, gives);
@@ -78,7 +78,7 @@ impl Call {
         let answer = effect.answer;
         let state = effect.state;
         let signals = effect.signals;
-        if answer.number() == 0 {
+        if matches!(answer, Answer::Done) {
             let call = self.after(number, state, effect.gives, effect.stores);
             return Outcome {
                 answer: answer,
@@ -94,10 +94,10 @@ impl Call {
     }
 
     // The record of a new call, with number 1 for its incumbent. The key and the place are the table's to check.
-    pub fn opened(key: u32, wanted: Wanted) -> Outcome
+    pub fn opened(key: u32, wanted: Option<Services>) -> Outcome
         ensures { result ≡ opened_for key wanted }
     {
-        let services = wanted.services();
+        let services = Services::wanted(wanted);
         let soft = services.soft;
         Outcome {
             answer: Answer::Done,
@@ -128,10 +128,7 @@ impl Call {
 fn last_given(last: u16) -> u16
     ensures { result ≡ last_given last }
 {
-    match Fresh::after(last) {
-        Fresh::Next(number) => number,
-        Fresh::Spent => last,
-    }
+    signal::fresh_after(last).unwrap_or(last)
 }
 
 fn last_after(last: u16, gives: bool) -> u16

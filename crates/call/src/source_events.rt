@@ -6,7 +6,7 @@ ghost use Rattle.call.specs.Events.{source_half, handled_at};
 
 use crate::{Call, Outcome};
 use events::{Event, Node};
-use signal::{Crankback, Fresh, ReceivedCause, Switchover};
+use signal::{Crankback, ReroutingCause, Switchover};
 
 impl Call {
     pub fn trigger(self) -> Outcome
@@ -21,7 +21,10 @@ impl Call {
         ensures { result ≡ handled_at source_half self PathFound }
     {
         let state = self.state;
-        self.carried(0, source_requests::path_row(Fresh::after(self.last), state))
+        self.carried(
+            0,
+            source_requests::path_row(signal::fresh_after(self.last), state),
+        )
     }
 
     pub fn no_path(self) -> Outcome
@@ -44,7 +47,7 @@ impl Call {
     {
         let soft = self.soft;
         let state = self.state;
-        let next = Fresh::after(self.last);
+        let next = signal::fresh_after(self.last);
         self.carried(
             number,
             source_setups::setup_row(soft, code, number, self.remote, next, state),
@@ -65,7 +68,7 @@ impl Call {
         self.carried(0, shared_rows::expiry_row(Node::Source, state))
     }
 
-    pub fn calling_release(self, cause: ReceivedCause) -> Outcome
+    pub fn calling_release(self, cause: Option<ReroutingCause>) -> Outcome
         ensures { result ≡ handled_at source_half self (FromParty cause) }
     {
         let state = self.state;
@@ -75,13 +78,13 @@ impl Call {
     pub fn called_release(
         self,
         connection: u16,
-        cause: ReceivedCause,
+        cause: Option<ReroutingCause>,
         crankback: Crankback,
     ) -> Outcome
         ensures { result ≡ handled_at source_half self (FromDomain connection cause crankback) }
     {
         let state = self.state;
-        let next = Fresh::after(self.last);
+        let next = signal::fresh_after(self.last);
         self.carried(
             0,
             source_releases::called_row(self.hard, connection, cause, crankback, next, state),

@@ -7,8 +7,9 @@ use mathlib.Core.Path.{◌∙◌, ◌≡◌, refl, subst, sym}
 use lib.Dec.{eqb, leb}
 use lib.ListN.{drop}
 use borrow.Author.Tests.{eqb-false, eqb-true, le-leb, leb-true, not-false, not-true}
+use Rattle.std.specs.Prelude.{Option}
 use Rattle.signal.specs.Numbers.{answer_number}
-use Rattle.signal.specs.declared.Wanted.{Wanted}
+use Rattle.signal.specs.declared.Services.{Services}
 use Rattle.events.specs.declared.Act.{Act}
 use Rattle.events.specs.declared.Act.TheVariants.{Meets, Opens}
 use Rattle.events.specs.declared.Event.{Event}
@@ -62,7 +63,7 @@ module _ (half : Half) (L : Lawful half) where
   of_record c e = record { number = 106; applies = IsMeaningless half c e } ∷ after_meaning c e
 
   -- an opening: 103, then 104
-  opening_given : (ys : List Call) (key : ℕ) (wanted : Wanted) → FirstOf (answer_for half ys key (Opens wanted)) (later ys key (Opens wanted))
+  opening_given : (ys : List Call) (key : ℕ) (wanted : Option Services) → FirstOf (answer_for half ys key (Opens wanted)) (later ys key (Opens wanted))
   opening_given ys key wanted =
       tested (has_call key ys) _ _ (drop 3 (checks half ys key (Opens wanted))) (stands key ys) (stands_not key ys)
       (λ _. tested (not (has_call 0 ys)) _ 0 (drop 4 (checks half ys key (Opens wanted))) (λ full. stands_not 0 ys (not-true _ full)) (λ free none. none (stands 0 ys (not-false _ free)))

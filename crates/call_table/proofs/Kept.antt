@@ -9,8 +9,9 @@ use lib.Dec.{ltb}
 use lib.ListN.{get_or, length, length-set, set}
 use lib.Seq.{get_or-set_other, get_or-set_same}
 use borrow.Author.Tests.{ltb-false, ltb-true}
+use Rattle.std.specs.Prelude.{Option}
 use Rattle.signal.specs.declared.Answer.{Answer}
-use Rattle.signal.specs.declared.Wanted.{Wanted}
+use Rattle.signal.specs.declared.Services.{Services}
 use Rattle.events.specs.declared.Act.{Act}
 use Rattle.events.specs.declared.Act.TheVariants.{Meets, Opens}
 use Rattle.events.specs.declared.Event.{Event}
@@ -69,7 +70,7 @@ emptied_fit : FitRecord emptied
 emptied_fit = record { empty = λ k. refl; used = λ n. absurd (n refl) }
 
 -- a new call
-opened_fit : (key : ℕ) (wanted : Wanted) → (key ≡ 0 → ⊥) → FitRecord (opened_for key wanted).call
+opened_fit : (key : ℕ) (wanted : Option Services) → (key ≡ 0 → ⊥) → FitRecord (opened_for key wanted).call
 opened_fit key wanted n =
     let w : Well 1 _ = (one_well 1 1).0 (omega arith) in
     record {
@@ -119,7 +120,7 @@ module _ (half : Half) (L : Lawful half) where
   refusal_keeps ys f a = rw (past_the_end ys a).0 f
 
   -- a new call at an empty record, where no record has its key
-  opening_keeps : (ys : List Call) → FitTable ys → (key : ℕ) → (key ≡ 0 → ⊥) → first key 0 ys ≡ Nothing → (wanted : Wanted) (i : ℕ) (c : Call) →
+  opening_keeps : (ys : List Call) → FitTable ys → (key : ℕ) → (key ≡ 0 → ⊥) → first key 0 ys ≡ Nothing → (wanted : Option Services) (i : ℕ) (c : Call) →
       first 0 0 ys ≡ At i c → Keeps ys (placed_at i (opened_for key wanted))
   opening_keeps ys f key n none wanted i c p =
       let a : FoundAt 0 0 i c ys = found_at 0 0 i c ys p in

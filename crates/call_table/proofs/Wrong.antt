@@ -15,6 +15,7 @@ use denote.MutBor.{MutBor}
 use types.Logic.{Logic}
 use prog.Memory.{Memory}
 use prog.Routine.{Routine}
+use Rattle.std.specs.Prelude.{None}
 use Rattle.call.specs.Record.{emptied}
 use Rattle.call.specs.declared.Call.{Call}
 use Rattle.distinct.specs.Distinct.{has, distinct_of}
@@ -32,10 +33,8 @@ use Rattle.signal.specs.Numbers.{answer_number}
 use Rattle.signal.specs.Signals.{none, places}
 use Rattle.signal.specs.declared.Answer.TheVariants.{Done as WasDone, KeyNotOnRecord, KeyZero, NoEmptyRecord}
 use Rattle.signal.specs.declared.Answer.{Answer}
-use Rattle.signal.specs.declared.ReceivedCause.TheVariants.{NoCause}
 use Rattle.signal.specs.declared.Signal.{Signal}
 use Rattle.signal.specs.declared.Soft.TheVariants.{Symmetric}
-use Rattle.signal.specs.declared.Wanted.TheVariants.{Unnamed}
 use Rattle.call_table.specs.declared.Done.{Done}
 use Rattle.call_table.specs.declared.SixtyFour.{SixtyFour}
 use Rattle.call_table.specs.contracts.handle as handle
@@ -85,7 +84,7 @@ module _ {M : Type 1} {𝓤 : Ura M} (𝓛 : Logic 𝓤) (memory : Memory → SP
   -- 103 where the key is on record, 104 where no record is empty (01, "Numbers of refusal")
   pub refusals_103_and_104_exchanged :
       (signals : List Signal) (left : List Call) →
-      handle_shuts_out (idle 7 ∷ []) 7 (Opens Unnamed) (answering NoEmptyRecord signals) left
+      handle_shuts_out (idle 7 ∷ []) 7 (Opens None) (answering NoEmptyRecord signals) left
   unfolding read_from has distinct_of
   refusals_103_and_104_exchanged signals left κs =
       fact_mono 𝓤 _ _ (λ h. let z : ◌≡◌ {A = ℕ} 104 _ = ap (λ (d : Done). answer_number d.answer) h.0 in omega arith)
@@ -101,7 +100,7 @@ module _ {M : Type 1} {𝓤 : Ura M} (𝓛 : Logic 𝓤) (memory : Memory → SP
   -- over 1,024 records the table is unfit (01, 101; "Edges")
   pub records_1025_accepted :
       (signals : List Signal) (left : List Call) →
-      handle_shuts_out (replicate 1025 emptied) 7 (Opens Unnamed) (answering WasDone signals) left
+      handle_shuts_out (replicate 1025 emptied) 7 (Opens None) (answering WasDone signals) left
   unfolding read_from has distinct_of
   records_1025_accepted signals left κs =
       fact_mono 𝓤 _ _ (λ h. let z : ◌≡◌ {A = ℕ} 0 _ = ap (λ (d : Done). answer_number d.answer) h.0 in omega arith)
@@ -115,7 +114,7 @@ module _ {M : Type 1} {𝓤 : Ura M} (𝓛 : Logic 𝓤) (memory : Memory → SP
   -- an opening takes the lowest empty record
   pub the_last_empty_record_is_taken :
       (d : Done) (c : Call) →
-      handle_shuts_out (emptied ∷ emptied ∷ []) 7 (Opens Unnamed) d (emptied ∷ c ∷ [])
+      handle_shuts_out (emptied ∷ emptied ∷ []) 7 (Opens None) d (emptied ∷ c ∷ [])
   unfolding read_from has distinct_of
   the_last_empty_record_is_taken d c κs =
       fact_mono 𝓤 _ _ (λ h. let z : ◌≡◌ {A = ℕ} 0 _ = ap (λ (ys : List Call). (get_or ys 0 emptied).key) h.1 in omega arith)
@@ -123,13 +122,13 @@ module _ {M : Type 1} {𝓤 : Ura M} (𝓛 : Logic 𝓤) (memory : Memory → SP
   -- not the first of the row
   pub opening_takes_the_first_place :
       (d : Done) (c : Call) →
-      handle_shuts_out (idle 5 ∷ emptied ∷ []) 7 (Opens Unnamed) d (c ∷ emptied ∷ [])
+      handle_shuts_out (idle 5 ∷ emptied ∷ []) 7 (Opens None) d (c ∷ emptied ∷ [])
   unfolding read_from has distinct_of
   opening_takes_the_first_place d c κs =
       fact_mono 𝓤 _ _ (λ h. let z : ◌≡◌ {A = ℕ} 0 _ = ap (λ (ys : List Call). (get_or ys 1 emptied).key) h.1 in omega arith)
 
   -- and under the key that is named, not under 7 as in the bench run
-  pub opening_under_key_7 : (d : Done) (c : Call) → c.key ≡ 7 → handle_shuts_out (emptied ∷ []) 9 (Opens Unnamed) d (c ∷ [])
+  pub opening_under_key_7 : (d : Done) (c : Call) → c.key ≡ 7 → handle_shuts_out (emptied ∷ []) 9 (Opens None) d (c ∷ [])
   unfolding read_from has distinct_of
   opening_under_key_7 d c k κs =
       fact_mono 𝓤 _ _ (λ h. let z : c.key ≡ 9 = ap (λ (ys : List Call). (get_or ys 0 emptied).key) h.1 in omega arith)
@@ -137,7 +136,7 @@ module _ {M : Type 1} {𝓤 : Ura M} (𝓛 : Logic 𝓤) (memory : Memory → SP
   -- an event sends the signals of its call: a release from the calling side goes on
   pub signals_dropped :
       (a : Answer) (left : List Call) →
-      handle_shuts_out (idle 7 ∷ []) 7 (Meets (FromParty NoCause)) (answering a (places [])) left
+      handle_shuts_out (idle 7 ∷ []) 7 (Meets (FromParty None)) (answering a (places [])) left
   unfolding read_from has distinct_of
   signals_dropped a left κs =
       fact_mono 𝓤 _ _ (λ h.
@@ -183,7 +182,7 @@ module _ {M : Type 1} {𝓤 : Ura M} (𝓛 : Logic 𝓤) (memory : Memory → SP
   -- the search may not stop at the first empty record (02, Ask 4): 103 needs the keys behind it
   pub search_ends_at_the_first_empty_record :
       (signals : List Signal) (left : List Call) →
-      handle_fit_shuts_out (emptied ∷ idle 7 ∷ []) 7 (Opens Unnamed) (answering WasDone signals) left
+      handle_fit_shuts_out (emptied ∷ idle 7 ∷ []) 7 (Opens None) (answering WasDone signals) left
   unfolding read_from has distinct_of
   search_ends_at_the_first_empty_record signals left κs =
       fact_mono 𝓤 _ _ (λ h. let z : ◌≡◌ {A = ℕ} 0 _ = ap (λ (d : Done). answer_number d.answer) h.0 in omega arith)
@@ -199,7 +198,7 @@ module _ {M : Type 1} {𝓤 : Ura M} (𝓛 : Logic 𝓤) (memory : Memory → SP
   -- of empty records it is the lowest that is taken, also where no more than the keys is read
   pub a_later_empty_record_is_taken :
       (d : Done) (c : Call) →
-      handle_fit_shuts_out (idle 5 ∷ emptied ∷ emptied ∷ []) 7 (Opens Unnamed) d (idle 5 ∷ emptied ∷ c ∷ [])
+      handle_fit_shuts_out (idle 5 ∷ emptied ∷ emptied ∷ []) 7 (Opens None) d (idle 5 ∷ emptied ∷ c ∷ [])
   unfolding read_from has distinct_of
   a_later_empty_record_is_taken d c κs =
       fact_mono 𝓤 _ _ (λ h. let z : ◌≡◌ {A = ℕ} 0 _ = ap (λ (ys : List Call). (get_or ys 1 emptied).key) h.1 in omega arith)
@@ -242,7 +241,7 @@ module _ {M : Type 1} {𝓤 : Ura M} (𝓛 : Logic 𝓤) (memory : Memory → SP
   -- what is decided is stored, and the table not left as it was (01, "What the contracts settle")
   pub table_left_untouched :
       (d : Done) →
-      handle64_shuts_out (replicate 64 emptied) 7 (Opens Unnamed) (record { table = replicate 64 emptied; done = d })
+      handle64_shuts_out (replicate 64 emptied) 7 (Opens None) (record { table = replicate 64 emptied; done = d })
   unfolding read_from has distinct_of
   table_left_untouched d =
       fact_mono 𝓤 _ _ (λ h. let z : ◌≡◌ {A = ℕ} 0 _ = ap (λ (ys : List Call). (get_or ys 0 emptied).key) h.1 in omega arith)

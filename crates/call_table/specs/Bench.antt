@@ -1,18 +1,16 @@
 -- The bench run of 01, B1 to B16, in a single statement over the list: events, answers, signals, states and record numbers as the document
 -- prints them, and from B12 on as 02, Ask 3, amends them, for calls by key 7 with hard on and symmetric soft, in a row of any length.
 -- Assumes nothing.
-use Rattle.std.specs.Prelude.{ℕ, true, List, [], ◌∷◌, ◌≡◌, replicate}
+use Rattle.std.specs.Prelude.{ℕ, true, List, [], ◌∷◌, ◌≡◌, replicate, None, Some}
 use Rattle.signal.specs.Causes.{complete, in_progress, not_recovered, old_number, unsupported}
 use Rattle.signal.specs.Numbers.{answer_number}
 use Rattle.signal.specs.Signals.{connect_on, places, rejection, release_of, setup_on, switch_to, timer_start}
 use Rattle.signal.specs.declared.Crankback.TheVariants.{NoCrankback}
 use Rattle.signal.specs.declared.Kind.TheVariants.{CallingRelease, IncumbentRelease, ReroutingRelease}
-use Rattle.signal.specs.declared.ReceivedCause.TheVariants.{NoCause, WithCause}
 use Rattle.signal.specs.declared.SentCause.TheVariants.{Absent, Numbered}
 use Rattle.signal.specs.declared.Signal.{Signal}
 use Rattle.signal.specs.declared.Soft.TheVariants.{Symmetric}
 use Rattle.signal.specs.declared.Switchover.{Switchover}
-use Rattle.signal.specs.declared.Wanted.TheVariants.{Named}
 use Rattle.events.specs.declared.Act.{Act}
 use Rattle.events.specs.declared.Act.TheVariants.{Meets, Opens}
 use Rattle.events.specs.declared.Event.TheVariants.{Connect, Expiry, FromDomain, PathFound, Ready, Setup, Trigger}
@@ -48,7 +46,7 @@ abbrev pub immediate : Switchover
 immediate = record { code = 0 }
 
 abbrev pub open_both : Act
-open_both = Opens (Named (record { hard = true; soft = Symmetric }))
+open_both = Opens (Some (record { hard = true; soft = Symmetric }))
 
 -- B1 to B16, of which B15 is three events
 unfoldable pub bench_run : List Act
@@ -60,8 +58,8 @@ bench_run =
     ∷ Meets (Setup immediate 9)
     ∷ Meets (Setup clearing 5)
     ∷ Meets Ready
-    ∷ Meets (FromDomain 1 (WithCause complete) NoCrankback)
-    ∷ Meets (FromDomain 1 NoCause NoCrankback)
+    ∷ Meets (FromDomain 1 (Some complete) NoCrankback)
+    ∷ Meets (FromDomain 1 None NoCrankback)
     ∷ Meets Trigger
     ∷ Meets PathFound
     ∷ Meets (Setup clearing 6)
@@ -69,7 +67,7 @@ bench_run =
     ∷ open_both
     ∷ Meets Trigger
     ∷ Meets PathFound
-    ∷ Meets (FromDomain 4 NoCause NoCrankback)
+    ∷ Meets (FromDomain 4 None NoCrankback)
     ∷ Meets Expiry
     ∷ []
 

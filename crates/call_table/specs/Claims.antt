@@ -3,9 +3,10 @@
 -- one of the three in README.md. Proofs: proofs/Fit.antt, Stored.antt, Claims.antt, Given.antt,
 -- Stopped.antt and Kept.antt. Assumes nothing.
 use Rattle.std.specs.Prelude.{◌<◌, ◌≤◌, ℕ, Bool, cond, false, not, true, List, [], ◌++◌, ◌∷◌, map, ◌↔◌, ◌⊎◌, ◌≡◌, eqb, get_or, length, set}
+use Rattle.std.specs.Prelude.{Option}
 use Rattle.signal.specs.Numbers.{answer_number}
 use Rattle.signal.specs.Signals.{places}
-use Rattle.signal.specs.declared.Wanted.{Wanted}
+use Rattle.signal.specs.declared.Services.{Services}
 use Rattle.events.specs.declared.Act.{Act}
 use Rattle.events.specs.declared.Act.TheVariants.{Meets, Opens}
 use Rattle.events.specs.declared.Event.{Event}
@@ -151,7 +152,7 @@ module _ (half : Half) where
   -- its key, leaves every other record, and sends what an opening sends.
   abbrev pub OpeningTakesItsRecord : Type 0
   OpeningTakesItsRecord =
-      (ys : List Call) (key : ℕ) (wanted : Wanted) → answered ys key (Opens wanted) ≡ 0 →
+      (ys : List Call) (key : ℕ) (wanted : Option Services) → answered ys key (Opens wanted) ≡ 0 →
       (table_of half ys key (Opens wanted) ≡ call_replaced 0 (opened_for key wanted).call ys)
       × ((ran_of half ys key (Opens wanted)).done.signals ≡ (opened_for key wanted).signals)
 
@@ -159,7 +160,7 @@ module _ (half : Half) where
   -- at i, and only there.
   abbrev pub TakesLowestEmpty : Type 0
   TakesLowestEmpty =
-      (ys : List Call) (key : ℕ) (wanted : Wanted) → answered ys key (Opens wanted) ≡ 0 →
+      (ys : List Call) (key : ℕ) (wanted : Option Services) → answered ys key (Opens wanted) ≡ 0 →
       (i : ℕ) → i < length ys → (get_or ys i emptied).key ≡ 0 → ((j : ℕ) → j < i → (get_or ys j emptied).key ≡ 0 → ⊥) →
       table_of half ys key (Opens wanted) ≡ set ys i (opened_for key wanted).call
 
@@ -201,7 +202,8 @@ KeysAloneAreRead = (ys zs : List Call) (key : ℕ) → map (λ c. c.key) ys ≡ 
 
 -- For an opening no record is fetched, whatever the search has found.
 abbrev pub OpeningFetchesNone : Type 0
-OpeningFetchesNone = (ys : List Call) (s : Places) (wanted : Wanted) → fetched_from ys (needed_by (length ys) s (Opens wanted)) ≡ Nothing
+OpeningFetchesNone =
+    (ys : List Call) (s : Places) (wanted : Option Services) → fetched_from ys (needed_by (length ys) s (Opens wanted)) ≡ Nothing
 
 -- all of them, of one half
 pub record TableClaims (half : Half) : Type 0 where

@@ -1,12 +1,11 @@
 -- The bench run of the destination node (02, Ask 2), twenty steps from its opening to Null, in a single statement over the list: for a call
 -- by key 7 with hard on and symmetric soft, in a row of any length. The documents print no run for this end: each step is derived from its
 -- section of 6.3, by hand (bench/destination/bench_run.txt). Assumes nothing.
-use Rattle.std.specs.Prelude.{ℕ, true, List, [], ◌∷◌, ◌≡◌, replicate}
+use Rattle.std.specs.Prelude.{ℕ, true, List, [], ◌∷◌, ◌≡◌, replicate, None, Some}
 use Rattle.signal.specs.Causes.{complete, not_recovered, old_number, unsupported}
 use Rattle.signal.specs.Signals.{call_rejected, connect_on, rejection, release_of, setup_on, switch_to, timer_start, timer_stop}
 use Rattle.signal.specs.declared.Crankback.TheVariants.{NoCrankback}
 use Rattle.signal.specs.declared.Kind.TheVariants.{CalledRelease, IncumbentRelease}
-use Rattle.signal.specs.declared.ReceivedCause.TheVariants.{NoCause, WithCause}
 use Rattle.signal.specs.declared.SentCause.TheVariants.{Absent, Numbered}
 use Rattle.signal.specs.declared.Switchover.{Switchover}
 use Rattle.events.specs.declared.Act.{Act}
@@ -36,14 +35,14 @@ destination_run =
     ∷ Meets Ready
     ∷ Meets (Setup clearing 8)
     ∷ Meets Ready
-    ∷ Meets (FromDomain 3 (WithCause complete) NoCrankback)
-    ∷ Meets (FromDomain 3 NoCause NoCrankback)
+    ∷ Meets (FromDomain 3 (Some complete) NoCrankback)
+    ∷ Meets (FromDomain 3 None NoCrankback)
     ∷ Meets Trigger
     ∷ Meets Trigger
     ∷ Meets PathFound
     ∷ Meets (Connect 6 true)
     ∷ open_both
-    ∷ Meets (FromDomain 6 NoCause NoCrankback)
+    ∷ Meets (FromDomain 6 None NoCrankback)
     ∷ Meets Expiry
     ∷ []
 

@@ -4,7 +4,7 @@ use call::{Call, Outcome};
 use events::{Act, Event, Node};
 use lines::{put_byte, put_number, put_word};
 use rows::State;
-use signal::{Crankback, ReceivedCause, ReroutingCause, Services, Soft, Switchover, Wanted};
+use signal::{Crankback, ReroutingCause, Services, Soft, Switchover};
 use std::io::Stdout;
 
 // A run so far, at one end: where its lines go, the call after its last event, and whether every line was written.
@@ -27,7 +27,7 @@ pub(crate) fn print_run(stdout: Stdout, node: Node) -> bool {
 
 // B1, step 1
 fn begin(stdout: Stdout, node: Node) -> Run {
-    let wanted = Wanted::Named(Services {
+    let wanted = Some(Services {
         hard: true,
         soft: Soft::Symmetric,
     });
@@ -46,7 +46,7 @@ fn answer_setups(run: Run) -> Run {
         .step(6, Event::Setup(Switchover::CLEARING, 5))
         .step(7, Event::Ready)
         .step(8, released(1, complete()))
-        .step(9, released(1, ReceivedCause::NoCause))
+        .step(9, released(1, None))
 }
 
 // B10 to B13: the node reroutes softly.
@@ -61,7 +61,7 @@ fn reroute(run: Run) -> Run {
 fn lose_incumbent(run: Run) -> Run {
     run.step(15, Event::Trigger)
         .step(15, Event::PathFound)
-        .step(15, released(4, ReceivedCause::NoCause))
+        .step(15, released(4, None))
         .step(16, Event::Expiry)
 }
 
@@ -82,7 +82,7 @@ fn move_soft(run: Run) -> Run {
         .step(10, Event::Setup(Switchover::CLEARING, 8))
         .step(11, Event::Ready)
         .step(12, released(3, complete()))
-        .step(13, released(3, ReceivedCause::NoCause))
+        .step(13, released(3, None))
 }
 
 // Steps 14 to 17: this side moves it once.
@@ -95,15 +95,14 @@ fn move_once(run: Run) -> Run {
 
 // Steps 19 and 20: the incumbent fails, and no setup comes in time.
 fn lose_call(run: Run) -> Run {
-    run.step(19, released(6, ReceivedCause::NoCause))
-        .step(20, Event::Expiry)
+    run.step(19, released(6, None)).step(20, Event::Expiry)
 }
 
-fn complete() -> ReceivedCause {
-    ReceivedCause::WithCause(ReroutingCause::COMPLETE)
+fn complete() -> Option<ReroutingCause> {
+    Some(ReroutingCause::COMPLETE)
 }
 
-fn released(connection: u16, cause: ReceivedCause) -> Event {
+fn released(connection: u16, cause: Option<ReroutingCause>) -> Event {
     Event::FromDomain(connection, cause, Crankback::NoCrankback)
 }
 

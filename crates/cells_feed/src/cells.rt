@@ -5,7 +5,7 @@ use crate::line::{put_answer, put_bar, write_line};
 use call::{Call, Outcome};
 use events::{Act, Event, Node};
 use rows::State;
-use signal::{Crankback, ReceivedCause, ReroutingCause, Services, Soft, Switchover, Wanted};
+use signal::{Crankback, ReroutingCause, Services, Soft, Switchover};
 use std::io::Stdout;
 
 // Where a release comes from: the node's own party, or across the domain, for a connection.
@@ -158,7 +158,7 @@ fn print_domain(stdout: Stdout, node: Node, call: Call) -> bool {
 }
 
 fn print_causes(stdout: Stdout, node: Node, call: Call, origin: Origin) -> bool {
-    print_release(stdout, node, call, origin, ReceivedCause::NoCause)
+    print_release(stdout, node, call, origin, None)
         && print_release(stdout, node, call, origin, with_cause(0))
         && print_release(stdout, node, call, origin, with_cause(1))
         && print_release(stdout, node, call, origin, with_cause(2))
@@ -166,8 +166,8 @@ fn print_causes(stdout: Stdout, node: Node, call: Call, origin: Origin) -> bool 
         && print_release(stdout, node, call, origin, with_cause(255))
 }
 
-fn with_cause(number: u8) -> ReceivedCause {
-    ReceivedCause::WithCause(ReroutingCause { number: number })
+fn with_cause(number: u8) -> Option<ReroutingCause> {
+    Some(ReroutingCause { number: number })
 }
 
 fn print_release(
@@ -175,7 +175,7 @@ fn print_release(
     node: Node,
     call: Call,
     origin: Origin,
-    cause: ReceivedCause,
+    cause: Option<ReroutingCause>,
 ) -> bool {
     match origin {
         Origin::Party => print_cell(stdout, node, call, Event::FromParty(cause)),
@@ -188,7 +188,7 @@ fn print_crankbacks(
     node: Node,
     call: Call,
     connection: u16,
-    cause: ReceivedCause,
+    cause: Option<ReroutingCause>,
 ) -> bool {
     print_crankback(
         stdout,
@@ -219,7 +219,7 @@ fn print_crankback(
     node: Node,
     call: Call,
     connection: u16,
-    cause: ReceivedCause,
+    cause: Option<ReroutingCause>,
     crankback: Crankback,
 ) -> bool {
     print_cell(
@@ -256,7 +256,7 @@ pub(crate) fn print_openings(stdout: Stdout, node: Node) -> bool {
 }
 
 fn print_key(stdout: Stdout, node: Node, key: u32) -> bool {
-    print_opening(stdout, node, key, Wanted::Unnamed)
+    print_opening(stdout, node, key, None)
         && print_named(stdout, node, key, false, Soft::NoSoft)
         && print_named(stdout, node, key, false, Soft::Asymmetric)
         && print_named(stdout, node, key, false, Soft::Symmetric)
@@ -270,14 +270,14 @@ fn print_named(stdout: Stdout, node: Node, key: u32, hard: bool, soft: Soft) -> 
         stdout,
         node,
         key,
-        Wanted::Named(Services {
+        Some(Services {
             hard: hard,
             soft: soft,
         }),
     )
 }
 
-fn print_opening(stdout: Stdout, node: Node, key: u32, wanted: Wanted) -> bool {
+fn print_opening(stdout: Stdout, node: Node, key: u32, wanted: Option<Services>) -> bool {
     let mut line = [0u8; 256];
     let mut place = event_words::put_event(&mut line, 0, node, key, Act::Opens(wanted));
     place = put_outcome(&mut line, place, Call::opened(key, wanted));

@@ -15,24 +15,22 @@ ghost use Rattle.destination_releases.specs.Effects.{destination_calling, setup_
 
 use events::Node;
 use rows::{Class, Effect, State};
-use signal::{
-    Answer, CauseCode, Crankback, Fresh, Kind, ReceivedCause, ReroutingCause, SentCause, Signal,
-};
+use signal::{Answer, CauseCode, Crankback, Kind, ReroutingCause, SentCause, Signal};
 
 // What goes on towards the called side: #1 as received, any other cause as #2, none as none.
-fn forwarded(cause: ReceivedCause) -> SentCause
+fn forwarded(cause: Option<ReroutingCause>) -> SentCause
     ensures { result ≡ said cause (forwarding (class_of cause)) }
 {
     match rows::class_of(cause) {
         Class::CameNone => SentCause::Absent,
-        Class::CameOutside => cause.as_received(),
+        Class::CameOutside => SentCause::as_received(cause),
         Class::CameComplete => SentCause::Numbered(ReroutingCause::NOT_RECOVERED),
         Class::CameOther => SentCause::Numbered(ReroutingCause::NOT_RECOVERED),
     }
 }
 
 // The called side is told, and another connection of the call is released without a Rerouting cause.
-fn told_with(cause: ReceivedCause, kind: Kind, connection: u16) -> Effect
+fn told_with(cause: Option<ReroutingCause>, kind: Kind, connection: u16) -> Effect
     ensures { result ≡ ended_telling Destination (said cause (forwarding (class_of cause))) (release_of kind connection Absent) }
 {
     let other = Signal::release(kind, connection, SentCause::Absent, CauseCode::Section66);
@@ -40,7 +38,13 @@ fn told_with(cause: ReceivedCause, kind: Kind, connection: u16) -> Effect
 }
 
 // 6.3.4.8 cases 3 and 4
-fn proceeding_lost(hard: bool, cause: ReceivedCause, i: u16, r: u16, next: Fresh) -> Effect
+fn proceeding_lost(
+    hard: bool,
+    cause: Option<ReroutingCause>,
+    i: u16,
+    r: u16,
+    next: Option<u16>,
+) -> Effect
     ensures { result ≡ at_destination (SoftProceeding i r) next cause (proceeding_lost hard (class_of cause)) }
 {
     match rows::class_of(cause) {
@@ -63,7 +67,13 @@ fn proceeding_lost(hard: bool, cause: ReceivedCause, i: u16, r: u16, next: Fresh
 }
 
 // 6.3.4.5 cases 3 and 4
-fn setup_lost(hard: bool, cause: ReceivedCause, i: u16, r: u16, next: Fresh) -> Effect
+fn setup_lost(
+    hard: bool,
+    cause: Option<ReroutingCause>,
+    i: u16,
+    r: u16,
+    next: Option<u16>,
+) -> Effect
     ensures { result ≡ at_destination (SoftInitiated i r) next cause (setup_lost hard (class_of cause)) }
 {
     match rows::class_of(cause) {
@@ -85,7 +95,7 @@ fn setup_lost(hard: bool, cause: ReceivedCause, i: u16, r: u16, next: Fresh) -> 
 }
 
 // 6.3.4.6 cases 3 and 4
-fn switchover_lost(cause: ReceivedCause, i: u16, r: u16, next: Fresh) -> Effect
+fn switchover_lost(cause: Option<ReroutingCause>, i: u16, r: u16, next: Option<u16>) -> Effect
     ensures { result ≡ at_destination (Awaiting i r) next cause (switchover_lost (class_of cause)) }
 {
     let switch = Signal::naming(Kind::Switch, r);
@@ -98,7 +108,7 @@ fn switchover_lost(cause: ReceivedCause, i: u16, r: u16, next: Fresh) -> Effect
 }
 
 // 6.3.4.6 cases 5 and 6
-fn switchover_dropped(cause: ReceivedCause, i: u16, r: u16, next: Fresh) -> Effect
+fn switchover_dropped(cause: Option<ReroutingCause>, i: u16, r: u16, next: Option<u16>) -> Effect
     ensures { result ≡ at_destination (Awaiting i r) next cause (switchover_dropped (class_of cause)) }
 {
     match rows::class_of(cause) {
@@ -110,7 +120,7 @@ fn switchover_dropped(cause: ReceivedCause, i: u16, r: u16, next: Fresh) -> Effe
 }
 
 // 6.3.4.4 cases 3 and 4
-fn hard_dropped(cause: ReceivedCause, r: u16, next: Fresh) -> Effect
+fn hard_dropped(cause: Option<ReroutingCause>, r: u16, next: Option<u16>) -> Effect
     ensures { result ≡ at_destination (HardUnderway r) next cause (hard_dropped (class_of cause)) }
 {
     match rows::class_of(cause) {
@@ -125,9 +135,9 @@ fn hard_dropped(cause: ReceivedCause, r: u16, next: Fresh) -> Effect
 fn proceeding_calling(
     hard: bool,
     connection: u16,
-    cause: ReceivedCause,
+    cause: Option<ReroutingCause>,
     crankback: Crankback,
-    next: Fresh,
+    next: Option<u16>,
     i: u16,
     r: u16,
 ) -> Effect
@@ -145,8 +155,8 @@ fn proceeding_calling(
 fn setup_calling(
     hard: bool,
     connection: u16,
-    cause: ReceivedCause,
-    next: Fresh,
+    cause: Option<ReroutingCause>,
+    next: Option<u16>,
     i: u16,
     r: u16,
 ) -> Effect
@@ -161,7 +171,13 @@ fn setup_calling(
     Effect::refused(Answer::NotHeld, State::SoftInitiated(i, r))
 }
 
-fn switchover_calling(connection: u16, cause: ReceivedCause, next: Fresh, i: u16, r: u16) -> Effect
+fn switchover_calling(
+    connection: u16,
+    cause: Option<ReroutingCause>,
+    next: Option<u16>,
+    i: u16,
+    r: u16,
+) -> Effect
     ensures { result ≡ switchover_calling connection cause next i r }
 {
     if connection == i {
@@ -176,9 +192,9 @@ fn switchover_calling(connection: u16, cause: ReceivedCause, next: Fresh, i: u16
 pub fn calling_row(
     hard: bool,
     connection: u16,
-    cause: ReceivedCause,
+    cause: Option<ReroutingCause>,
     crankback: Crankback,
-    next: Fresh,
+    next: Option<u16>,
     state: State,
 ) -> Effect
     ensures { result ≡ destination_calling hard connection cause crankback next state }

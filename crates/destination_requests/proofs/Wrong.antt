@@ -12,10 +12,9 @@ use contract.Monad.{Fun, fact, fact_mono}
 use types.Logic.{Logic}
 use prog.Memory.{Memory}
 use prog.Routine.{Routine}
+use Rattle.std.specs.Prelude.{Option, Some}
 use Rattle.signal.specs.Numbers.{answer_number}
 use Rattle.signal.specs.Signals.{none}
-use Rattle.signal.specs.declared.Fresh.TheVariants.{Next}
-use Rattle.signal.specs.declared.Fresh.{Fresh}
 use Rattle.signal.specs.declared.SentCause.TheVariants.{Absent}
 use Rattle.signal.specs.declared.SentCause.{SentCause}
 use Rattle.signal.specs.declared.Soft.TheVariants.{Asymmetric, Symmetric}
@@ -52,16 +51,16 @@ module _ {M : Type 1} {𝓤 : Ura M} (𝓛 : Logic 𝓤) (memory : Memory → SP
       fact_mono 𝓤 _ _ (λ h. let z : ◌≡◌ {A = ℕ} _ 1 = sym (ap (λ (r : Effect). state_number r.state) h) ∙ w in omega arith)
 
   -- path_row: of the next number and the state, what comes of a path that was found
-  abbrev path_row_shuts_out : Fresh → State → Effect → Type 1
+  abbrev path_row_shuts_out : Option ℕ → State → Effect → Type 1
   path_row_shuts_out next state r = NeverHolds ((path_row.clauses 𝓛 memory run tt (next, (state, tt))).ensures tt r (next, (state, tt)))
 
   -- this end looks for no hard path: 106 (decision 60)
-  pub path_found_in_hard_indicated_is_done : (r : Effect) → answer_number r.answer ≡ 0 → path_row_shuts_out (Next 6) HardWaiting r
+  pub path_found_in_hard_indicated_is_done : (r : Effect) → answer_number r.answer ≡ 0 → path_row_shuts_out (Some 6) HardWaiting r
   path_found_in_hard_indicated_is_done r w =
       fact_mono 𝓤 _ _ (λ h. let z : ◌≡◌ {A = ℕ} _ 0 = sym (ap (λ (r : Effect). answer_number r.answer) h) ∙ w in omega arith)
 
   -- the incumbent stays the incumbent (6.3.6.1 case 1; 6.3.3)
-  pub destination_path_exchanges_connections : (r : Effect) → incumbent_of r.state ≡ 6 → path_row_shuts_out (Next 6) (SoftTriggered 3) r
+  pub destination_path_exchanges_connections : (r : Effect) → incumbent_of r.state ≡ 6 → path_row_shuts_out (Some 6) (SoftTriggered 3) r
   destination_path_exchanges_connections r w =
       fact_mono 𝓤 _ _ (λ h. let z : ◌≡◌ {A = ℕ} _ 6 = sym (ap (λ (r : Effect). incumbent_of r.state) h) ∙ w in omega arith)
 

@@ -7,7 +7,7 @@ ghost use Rattle.destination_requests.specs.Effects.{destination_trigger, destin
 
 use events::Node;
 use rows::{Effect, State};
-use signal::{Answer, Fresh, Soft};
+use signal::{Answer, Soft};
 
 // 6.3.6.1: symmetric soft alone is started from this side.
 pub fn trigger_row(soft: Soft, state: State) -> Effect
@@ -21,7 +21,7 @@ pub fn trigger_row(soft: Soft, state: State) -> Effect
 }
 
 // 6.3.6.1 case 1
-pub fn path_row(next: Fresh, state: State) -> Effect
+pub fn path_row(next: Option<u16>, state: State) -> Effect
     ensures { result ≡ destination_path next state }
 {
     match state {

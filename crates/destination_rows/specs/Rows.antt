@@ -3,11 +3,10 @@
 -- 56); 01 gives the frame, and "decision N" is a point of docs/DECISIONS.md. The states have the destination's own names; the party is the
 -- called one, and the release from across the domain is the calling side's. A clause that refuses names 106
 -- (NoMeaning), 107 (NotHeld) or, in Shared, 108 (NumbersSpent; decision 60). Assumes nothing.
-use Rattle.std.specs.Prelude.{Bool, cond}
+use Rattle.std.specs.Prelude.{ℕ, Bool, cond, Option}
 use Rattle.signal.specs.declared.Answer.TheVariants.{NoMeaning, NotHeld}
 use Rattle.signal.specs.declared.Crankback.{Crankback}
-use Rattle.signal.specs.declared.Fresh.{Fresh}
-use Rattle.signal.specs.declared.ReceivedCause.{ReceivedCause}
+use Rattle.signal.specs.declared.ReroutingCause.{ReroutingCause}
 use Rattle.signal.specs.declared.Soft.{Soft}
 use Rattle.signal.specs.declared.Soft.TheVariants.{Asymmetric, NoSoft, Symmetric}
 use Rattle.events.specs.declared.Event.{Event}
@@ -240,7 +239,7 @@ abbrev pub destination_row : Case → Rule
 destination_row c = destination_row_in c.phase c.hard c.soft c.room c.happening
 
 -- a rule, carried out at the destination
-abbrev pub at_destination : State → Fresh → ReceivedCause → Rule → Effect
+abbrev pub at_destination : State → Option ℕ → Option ReroutingCause → Rule → Effect
 at_destination = carried_at Destination
 
 -- what an event does to a call: the row of its case, carried out

@@ -4,11 +4,10 @@ use mathlib.Core.Bool.{Bool, ◌&&◌, cond, false, not, true, true≢false}
 use mathlib.Core.Path.{◌≡◌, refl, sym}
 use lib.Dec.{eqb, leb}
 use borrow.Author.Tests.{eqb-false, eqb-true, le-leb, lt-leb}
+use Prim.Native.Nat.{ℕ}
+use Rattle.std.specs.Prelude.{Option, None}
 use Rattle.signal.specs.Numbers.{is_clearing}
 use Rattle.signal.specs.declared.Answer.TheVariants.{NoMeaning}
-use Rattle.signal.specs.declared.Fresh.{Fresh}
-use Rattle.signal.specs.declared.Fresh.TheVariants.{Spent}
-use Rattle.signal.specs.declared.ReceivedCause.TheVariants.{NoCause}
 use Rattle.signal.specs.declared.Switchover.{Switchover}
 use Rattle.rows.specs.Cases.{AsksClearing, AsksImmediate, AsksOther, asking_of}
 use Rattle.rows.specs.Effects.{refused_in}
@@ -24,7 +23,7 @@ use Rattle.destination_rows.specs.Rows.{at_destination, hard_setup_in, setup_ask
 use Rattle.destination_setups.specs.Effects.{setup_spent}
 
 -- without a number
-pub hard_spent : (s : State) → setup_spent s ≡ at_destination s Spent NoCause (hard_setup_in (phase_of s) false)
+pub hard_spent : (s : State) → setup_spent s ≡ at_destination s None None (hard_setup_in (phase_of s) false)
 hard_spent Null = refl
 hard_spent (Idle i) = refl
 hard_spent HardWaiting = refl
@@ -34,7 +33,7 @@ hard_spent (SoftProceeding i r) = refl
 hard_spent (SoftInitiated i r) = refl
 hard_spent (Awaiting i r) = refl
 
-pub soft_spent : (s : State) → setup_spent s ≡ at_destination s Spent NoCause (soft_setup_in (phase_of s) false)
+pub soft_spent : (s : State) → setup_spent s ≡ at_destination s None None (soft_setup_in (phase_of s) false)
 soft_spent Null = refl
 soft_spent (Idle i) = refl
 soft_spent HardWaiting = refl
@@ -95,7 +94,7 @@ in_call_lem (SoftInitiated i r) row h = refl
 in_call_lem (Awaiting i r) row h = refl
 
 -- and in it
-pub null_met : (s : State) (row : Rule) (next : Fresh) → is_null s ≡ true → refused_in NoMeaning s ≡ at_destination s next NoCause (in_call (phase_of s) row)
+pub null_met : (s : State) (row : Rule) (next : Option ℕ) → is_null s ≡ true → refused_in NoMeaning s ≡ at_destination s next None (in_call (phase_of s) row)
 null_met Null row next h = refl
 null_met (Idle i) row next h = absurd (true≢false (sym h))
 null_met HardWaiting row next h = absurd (true≢false (sym h))

@@ -1,13 +1,10 @@
 -- The rows of a setup and of "ready" at the destination, carried out: what the functions of this crate return. Assumes nothing.
-use Rattle.std.specs.Prelude.{ℕ, Bool, cond, true}
+use Rattle.std.specs.Prelude.{ℕ, Bool, cond, true, Option, None}
 use Rattle.signal.specs.Numbers.{is_late}
 use Rattle.signal.specs.Signals.{none, release_of, release_with, timer_start}
 use Rattle.signal.specs.declared.Answer.TheVariants.{NoMeaning, NumbersSpent}
 use Rattle.signal.specs.declared.CauseCode.TheVariants.{CallRejected}
-use Rattle.signal.specs.declared.Fresh.{Fresh}
-use Rattle.signal.specs.declared.Fresh.TheVariants.{Spent}
 use Rattle.signal.specs.declared.Kind.TheVariants.{IncumbentRelease, ReroutingRelease}
-use Rattle.signal.specs.declared.ReceivedCause.TheVariants.{NoCause}
 use Rattle.signal.specs.declared.SentCause.TheVariants.{Absent}
 use Rattle.signal.specs.declared.Soft.{Soft}
 use Rattle.signal.specs.declared.Switchover.{Switchover}
@@ -34,18 +31,18 @@ abbrev pub setup_spent : State → Effect
 setup_spent s = cond (is_null s) (refused_in NoMeaning s) (refused_in NumbersSpent s)
 
 -- of a call that a service is activated for, outside Null and in any state
-abbrev pub setup_checked : Switchover → ℕ → ℕ → Fresh → State → Effect
+abbrev pub setup_checked : Switchover → ℕ → ℕ → Option ℕ → State → Effect
 setup_checked code number remote next s =
-    at_destination s next NoCause (setup_asked_here (asking_of code) (is_late number remote) (phase_of s) (is_next next))
+    at_destination s next None (setup_asked_here (asking_of code) (is_late number remote) (phase_of s) (is_next next))
 
-abbrev pub setup_met : Switchover → ℕ → ℕ → Fresh → State → Effect
+abbrev pub setup_met : Switchover → ℕ → ℕ → Option ℕ → State → Effect
 setup_met code number remote next s =
-    at_destination s next NoCause
+    at_destination s next None
     (in_call (phase_of s) (setup_asked_here (asking_of code) (is_late number remote) (phase_of s) (is_next next)))
 
-abbrev pub destination_setup : Bool → Soft → Switchover → ℕ → ℕ → Fresh → State → Effect
+abbrev pub destination_setup : Bool → Soft → Switchover → ℕ → ℕ → Option ℕ → State → Effect
 destination_setup hard soft code number remote next s =
-    at_destination s next NoCause (setup_at_destination (phase_of s) hard soft (is_next next) (asking_of code) (is_late number remote))
+    at_destination s next None (setup_at_destination (phase_of s) hard soft (is_next next) (asking_of code) (is_late number remote))
 
 abbrev pub destination_ready : State → Effect
-destination_ready s = at_destination s Spent NoCause (ready_at_destination (phase_of s))
+destination_ready s = at_destination s None None (ready_at_destination (phase_of s))

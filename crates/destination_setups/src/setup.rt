@@ -1,9 +1,7 @@
 // A reroute setup from the far side, 6.3.5: the checks in their order, then the rows by state.
-ghost use Rattle.std.specs.Prelude.{◌≡◌, true, not, ◌&&◌};
+ghost use Rattle.std.specs.Prelude.{◌≡◌, true, not, ◌&&◌, None, Some};
 ghost use Rattle.signal.specs.declared.CauseCode.TheVariants.{CallRejected};
-ghost use Rattle.signal.specs.declared.Fresh.TheVariants.{Next};
 ghost use Rattle.signal.specs.declared.Kind.TheVariants.{ReroutingRelease};
-ghost use Rattle.signal.specs.declared.ReceivedCause.TheVariants.{NoCause};
 ghost use Rattle.signal.specs.declared.SentCause.TheVariants.{Absent};
 ghost use Rattle.signal.specs.Signals.{none, release_with};
 ghost use Rattle.rows.specs.Cases.{asking_of};
@@ -15,7 +13,7 @@ ghost use Rattle.destination_rows.specs.Rows.{at_destination, hard_setup_in, sof
 ghost use Rattle.destination_setups.specs.Effects.{incumbent_left, both_left, setup_spent, setup_checked, setup_met, destination_setup};
 
 use rows::{Effect, State};
-use signal::{Answer, CauseCode, Fresh, Kind, ReroutingCause, SentCause, Signal, Soft, Switchover};
+use signal::{Answer, CauseCode, Kind, ReroutingCause, SentCause, Signal, Soft, Switchover};
 
 // A connection that gives way to the setup is released with Cause code #21.
 fn turned_away(kind: Kind, connection: u16) -> Signal
@@ -55,7 +53,7 @@ fn both_left(i: u16, r: u16, n: u16) -> Effect
 
 // A hard setup that is accepted, by state.
 fn hard_taken(n: u16, state: State) -> Effect
-    ensures { result ≡ at_destination state (Next n) NoCause (hard_setup_in (phase_of state) true) }
+    ensures { result ≡ at_destination state (Some n) None (hard_setup_in (phase_of state) true) }
 {
     match state {
         State::Null => Effect::refused(Answer::NoMeaning, state),
@@ -93,7 +91,7 @@ fn older_left(i: u16, r: u16, n: u16) -> Effect
 
 // The same of a soft one; in the Hard states it is a hard one.
 fn soft_taken(n: u16, state: State) -> Effect
-    ensures { result ≡ at_destination state (Next n) NoCause (soft_setup_in (phase_of state) true) }
+    ensures { result ≡ at_destination state (Some n) None (soft_setup_in (phase_of state) true) }
 {
     match state {
         State::Null => Effect::refused(Answer::NoMeaning, state),
@@ -111,27 +109,27 @@ fn soft_taken(n: u16, state: State) -> Effect
 fn spent(state: State) -> Effect
     ensures { result ≡ setup_spent state }
 {
-    if state.number() == 0 {
+    if matches!(state, State::Null) {
         return Effect::refused(Answer::NoMeaning, state);
     }
     Effect::refused(Answer::NumbersSpent, state)
 }
 
-fn hard_setup(next: Fresh, state: State) -> Effect
-    ensures { result ≡ at_destination state next NoCause (hard_setup_in (phase_of state) (is_next next)) }
+fn hard_setup(next: Option<u16>, state: State) -> Effect
+    ensures { result ≡ at_destination state next None (hard_setup_in (phase_of state) (is_next next)) }
 {
     match next {
-        Fresh::Next(n) => hard_taken(n, state),
-        Fresh::Spent => spent(state),
+        Some(n) => hard_taken(n, state),
+        None => spent(state),
     }
 }
 
-fn soft_setup(next: Fresh, state: State) -> Effect
-    ensures { result ≡ at_destination state next NoCause (soft_setup_in (phase_of state) (is_next next)) }
+fn soft_setup(next: Option<u16>, state: State) -> Effect
+    ensures { result ≡ at_destination state next None (soft_setup_in (phase_of state) (is_next next)) }
 {
     match next {
-        Fresh::Next(n) => soft_taken(n, state),
-        Fresh::Spent => spent(state),
+        Some(n) => soft_taken(n, state),
+        None => spent(state),
     }
 }
 
@@ -155,7 +153,13 @@ fn unsupported(code: Switchover, state: State) -> bool
 }
 
 // The code, then the number, then the state.
-fn setup_checked(code: Switchover, number: u32, remote: u32, next: Fresh, state: State) -> Effect
+fn setup_checked(
+    code: Switchover,
+    number: u32,
+    remote: u32,
+    next: Option<u16>,
+    state: State,
+) -> Effect
     ensures { result ≡ setup_checked code number remote next state }
 {
     if unsupported(code, state) {
@@ -171,10 +175,10 @@ fn setup_checked(code: Switchover, number: u32, remote: u32, next: Fresh, state:
 }
 
 // In Null no event has a meaning.
-fn setup_met(code: Switchover, number: u32, remote: u32, next: Fresh, state: State) -> Effect
+fn setup_met(code: Switchover, number: u32, remote: u32, next: Option<u16>, state: State) -> Effect
     ensures { result ≡ setup_met code number remote next state }
 {
-    if state.number() == 0 {
+    if matches!(state, State::Null) {
         return Effect::refused(Answer::NoMeaning, state);
     }
     setup_checked(code, number, remote, next, state)
@@ -186,7 +190,7 @@ pub fn setup_row(
     code: Switchover,
     number: u32,
     remote: u32,
-    next: Fresh,
+    next: Option<u16>,
     state: State,
 ) -> Effect
     ensures { result ≡ destination_setup hard soft code number remote next state }

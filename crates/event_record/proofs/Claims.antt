@@ -8,15 +8,14 @@ use mathlib.Core.Bool.{Bool, true, false, cond}
 use mathlib.Core.Logic.{inl, inr}
 use lib.Dec.{eqb, ltb}
 use borrow.Author.Tests.{lt-ltb, le-ltb, eqb-true, ne_eqb}
+use Rattle.std.specs.Prelude.{Option, None, Some}
 use Rattle.signal.specs.Numbers.{soft_number, crankback_number}
 use Rattle.signal.specs.declared.Crankback.{Crankback}
 use Rattle.signal.specs.declared.Crankback.TheVariants.{NoCrankback, AlternateFound, NoAlternate}
-use Rattle.signal.specs.declared.ReceivedCause.{ReceivedCause}
-use Rattle.signal.specs.declared.ReceivedCause.TheVariants.{NoCause, WithCause}
+use Rattle.signal.specs.declared.ReroutingCause.{ReroutingCause}
+use Rattle.signal.specs.declared.Services.{Services}
 use Rattle.signal.specs.declared.Soft.{Soft}
 use Rattle.signal.specs.declared.Soft.TheVariants.{NoSoft, Asymmetric, Symmetric}
-use Rattle.signal.specs.declared.Wanted.{Wanted}
-use Rattle.signal.specs.declared.Wanted.TheVariants.{Unnamed, Named}
 use Rattle.events.specs.declared.Event.{Event}
 use Rattle.events.specs.declared.Event.TheVariants.{Trigger, PathFound, NoPath, Connect, Setup, FromParty, FromDomain, Ready, Expiry}
 use Rattle.events.specs.declared.Act.{Act}
@@ -65,7 +64,7 @@ read_back_number n h =
 
 -- and so is what stands in the octets around the key
 open_back : (hard : Bool) (soft : Soft) →
-    open_of 1 (flag_number hard) (soft_number soft) ≡ Asks (Opens (Named (record { hard = hard; soft = soft })))
+    open_of 1 (flag_number hard) (soft_number soft) ≡ Asks (Opens (Some (record { hard = hard; soft = soft })))
 open_back true NoSoft = refl
 open_back true Asymmetric = refl
 open_back true Symmetric = refl
@@ -77,23 +76,23 @@ connect_back : (policy : Bool) (c : ℕ) → c < 65536 → connect_of (flag_numb
 connect_back true c h = rw (le-ltb 65535 c (omega arith))
 connect_back false c h = rw (le-ltb 65535 c (omega arith))
 
-calling_back : (cause : ReceivedCause) → calling_of (present_number cause) (cause_number cause) 0 ≡ Asks (Meets (FromParty cause))
-calling_back NoCause = refl
-calling_back (WithCause c) = refl
+calling_back : (cause : Option ReroutingCause) → calling_of (present_number cause) (cause_number cause) 0 ≡ Asks (Meets (FromParty cause))
+calling_back None = refl
+calling_back (Some c) = refl
 
-called_back : (c : ℕ) (cause : ReceivedCause) (back : Crankback) → c < 65536 →
+called_back : (c : ℕ) (cause : Option ReroutingCause) (back : Crankback) → c < 65536 →
     called_of (present_number cause) (cause_number cause) (crankback_number back) c ≡ Asks (Meets (FromDomain c cause back))
-called_back c NoCause NoCrankback h = rw (le-ltb 65535 c (omega arith))
-called_back c NoCause AlternateFound h = rw (le-ltb 65535 c (omega arith))
-called_back c NoCause NoAlternate h = rw (le-ltb 65535 c (omega arith))
-called_back c (WithCause n) NoCrankback h = rw (le-ltb 65535 c (omega arith))
-called_back c (WithCause n) AlternateFound h = rw (le-ltb 65535 c (omega arith))
-called_back c (WithCause n) NoAlternate h = rw (le-ltb 65535 c (omega arith))
+called_back c None NoCrankback h = rw (le-ltb 65535 c (omega arith))
+called_back c None AlternateFound h = rw (le-ltb 65535 c (omega arith))
+called_back c None NoAlternate h = rw (le-ltb 65535 c (omega arith))
+called_back c (Some n) NoCrankback h = rw (le-ltb 65535 c (omega arith))
+called_back c (Some n) AlternateFound h = rw (le-ltb 65535 c (omega arith))
+called_back c (Some n) NoAlternate h = rw (le-ltb 65535 c (omega arith))
 
-wanted_back : (w : Wanted) → request_of (open_values w).kind (open_values w).first (open_values w).second (open_values w).third
+wanted_back : (w : Option Services) → request_of (open_values w).kind (open_values w).first (open_values w).second (open_values w).third
     (open_values w).number ≡ Asks (Opens w)
-wanted_back Unnamed = refl
-wanted_back (Named s) = open_back s.hard s.soft
+wanted_back None = refl
+wanted_back (Some s) = open_back s.hard s.soft
 
 event_back : (e : Event) → EventFits e →
     request_of (event_values e).kind (event_values e).first (event_values e).second (event_values e).third (event_values e).number ≡ Asks
@@ -115,8 +114,8 @@ act_back (Meets e) f = event_back e f
 
 -- the number of an event fits into four octets
 number_fits : (act : Act) → ActFits act → (act_values act).number < 4294967296
-number_fits (Opens Unnamed) f = omega arith
-number_fits (Opens (Named s)) f = omega arith
+number_fits (Opens None) f = omega arith
+number_fits (Opens (Some s)) f = omega arith
 number_fits (Meets Trigger) f = omega arith
 number_fits (Meets PathFound) f = omega arith
 number_fits (Meets NoPath) f = omega arith

@@ -16,6 +16,7 @@ use denote.MutBor.{MutBor}
 use types.Logic.{Logic}
 use prog.Memory.{Memory}
 use prog.Routine.{Routine}
+use Rattle.std.specs.Prelude.{Option, Some}
 use Rattle.event_record.specs.Encoded.{octets_written}
 use Rattle.event_record.specs.Places.{record_at, rest_length}
 use Rattle.event_record.specs.declared.Decoded.{Decoded}
@@ -26,13 +27,10 @@ use Rattle.events.specs.declared.Act.{Act}
 use Rattle.events.specs.declared.Node.{Node}
 use Rattle.events.specs.declared.Node.TheVariants.{Source, Destination}
 use Rattle.events.specs.declared.Event.TheVariants.{Connect, FromParty, Setup, Trigger}
-use Rattle.signal.specs.declared.ReceivedCause.TheVariants.{WithCause}
-use Rattle.signal.specs.declared.ReceivedCause.{ReceivedCause}
 use Rattle.signal.specs.declared.ReroutingCause.{ReroutingCause}
 use Rattle.signal.specs.declared.Services.{Services}
 use Rattle.signal.specs.declared.Soft.TheVariants.{Symmetric}
 use Rattle.signal.specs.declared.Soft.{Soft}
-use Rattle.signal.specs.declared.Wanted.TheVariants.{Named}
 use Rattle.event_record.specs.contracts.decode as decode
 use Rattle.event_record.specs.contracts.encode as encode
 use Rattle.event_record.specs.contracts.record_at as record-at
@@ -54,7 +52,7 @@ written (Asks act) = octets_written 0 act
 
 -- an opening that names its services
 abbrev named : Bool → Soft → Request
-named hard soft = Asks (Opens (Named (record { hard = hard; soft = soft })))
+named hard soft = Asks (Opens (Some (record { hard = hard; soft = soft })))
 
 -- a connect for a connection, with the policy
 abbrev connecting : ℕ → Bool → Request
@@ -86,7 +84,7 @@ module _ {M : Type 1} {𝓤 : Ura M} (𝓛 : Logic 𝓤) (memory : Memory → SP
 
   -- crankback above 2 is bad in every release (decision 23)
   pub crankback_of_a_calling_release_not_tested :
-      (key : ℕ) (cause : ReceivedCause) →
+      (key : ℕ) (cause : Option ReroutingCause) →
       decode_shuts_out (6 ∷ 0 ∷ 0 ∷ 3 ∷ 0 ∷ 0 ∷ 0 ∷ 7 ∷ 0 ∷ 0 ∷ 0 ∷ 0 ∷ 0 ∷ 0 ∷ 0 ∷ 0 ∷ [])
       (record { key = key; request = Asks (Meets (FromParty cause)) })
   crankback_of_a_calling_release_not_tested key cause =
@@ -96,7 +94,7 @@ module _ {M : Type 1} {𝓤 : Ura M} (𝓛 : Logic 𝓤) (memory : Memory → SP
   pub cause_present_the_wrong_way_round :
       (key : ℕ) (cause : ReroutingCause) →
       decode_shuts_out (6 ∷ 0 ∷ 4 ∷ 0 ∷ 0 ∷ 0 ∷ 0 ∷ 7 ∷ 0 ∷ 0 ∷ 0 ∷ 0 ∷ 0 ∷ 0 ∷ 0 ∷ 0 ∷ [])
-      (record { key = key; request = Asks (Meets (FromParty (WithCause cause))) })
+      (record { key = key; request = Asks (Meets (FromParty (Some cause))) })
   cause_present_the_wrong_way_round key cause =
       fact_mono 𝓤 _ _ (λ h. let z : ◌≡◌ {A = ℕ} 1 _ = ap (λ (d : Decoded). get_or (written d.request) 1 0) h in omega arith)
 

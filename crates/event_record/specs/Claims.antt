@@ -1,10 +1,8 @@
 -- What is claimed of a record, read and written. Proofs: proofs/Claims.antt. Assumes nothing.
-use Rattle.std.specs.Prelude.{ℕ, ◌+◌, ◌*◌, ◌<◌, true, false, List, [], ◌∷◌, ◌⊎◌, ◌≡◌}
+use Rattle.std.specs.Prelude.{ℕ, ◌+◌, ◌*◌, ◌<◌, true, false, List, [], ◌∷◌, ◌⊎◌, ◌≡◌, Option, None, Some}
 use Rattle.signal.specs.declared.Crankback.TheVariants.{NoCrankback, AlternateFound, NoAlternate}
-use Rattle.signal.specs.declared.ReceivedCause.{ReceivedCause}
-use Rattle.signal.specs.declared.ReceivedCause.TheVariants.{NoCause, WithCause}
+use Rattle.signal.specs.declared.ReroutingCause.{ReroutingCause}
 use Rattle.signal.specs.declared.Soft.TheVariants.{NoSoft, Asymmetric, Symmetric}
-use Rattle.signal.specs.declared.Wanted.TheVariants.{Unnamed, Named}
 use Rattle.events.specs.declared.Event.{Event}
 use Rattle.events.specs.declared.Event.TheVariants.{Trigger, PathFound, NoPath, Connect, Setup, FromParty, FromDomain, Ready, Expiry}
 use Rattle.events.specs.declared.Act.{Act}
@@ -41,13 +39,13 @@ OnlyKeysMean =
 abbrev pub OpenMeans : Type 0
 OpenMeans =
     (q r : ℕ) (more : List ℕ) →
-    ((decoded_of (0 ∷ 0 ∷ q ∷ r ∷ more)).request ≡ Asks (Opens Unnamed))
-    × (((decoded_of (0 ∷ 1 ∷ 0 ∷ 0 ∷ more)).request ≡ Asks (Opens (Named (record { hard = false; soft = NoSoft }))))
-    × (((decoded_of (0 ∷ 1 ∷ 0 ∷ 1 ∷ more)).request ≡ Asks (Opens (Named (record { hard = false; soft = Asymmetric }))))
-    × (((decoded_of (0 ∷ 1 ∷ 0 ∷ 2 ∷ more)).request ≡ Asks (Opens (Named (record { hard = false; soft = Symmetric }))))
-    × (((decoded_of (0 ∷ 1 ∷ 1 ∷ 0 ∷ more)).request ≡ Asks (Opens (Named (record { hard = true; soft = NoSoft }))))
-    × (((decoded_of (0 ∷ 1 ∷ 1 ∷ 1 ∷ more)).request ≡ Asks (Opens (Named (record { hard = true; soft = Asymmetric }))))
-    × ((decoded_of (0 ∷ 1 ∷ 1 ∷ 2 ∷ more)).request ≡ Asks (Opens (Named (record { hard = true; soft = Symmetric })))))))))
+    ((decoded_of (0 ∷ 0 ∷ q ∷ r ∷ more)).request ≡ Asks (Opens None))
+    × (((decoded_of (0 ∷ 1 ∷ 0 ∷ 0 ∷ more)).request ≡ Asks (Opens (Some (record { hard = false; soft = NoSoft }))))
+    × (((decoded_of (0 ∷ 1 ∷ 0 ∷ 1 ∷ more)).request ≡ Asks (Opens (Some (record { hard = false; soft = Asymmetric }))))
+    × (((decoded_of (0 ∷ 1 ∷ 0 ∷ 2 ∷ more)).request ≡ Asks (Opens (Some (record { hard = false; soft = Symmetric }))))
+    × (((decoded_of (0 ∷ 1 ∷ 1 ∷ 0 ∷ more)).request ≡ Asks (Opens (Some (record { hard = true; soft = NoSoft }))))
+    × (((decoded_of (0 ∷ 1 ∷ 1 ∷ 1 ∷ more)).request ≡ Asks (Opens (Some (record { hard = true; soft = Asymmetric }))))
+    × ((decoded_of (0 ∷ 1 ∷ 1 ∷ 2 ∷ more)).request ≡ Asks (Opens (Some (record { hard = true; soft = Symmetric })))))))))
 
 -- 4 connect: byte 1 is policy, 0 no, 1 yes; bytes 8 to 11 the connection, which fills the last two of them at most
 abbrev pub ConnectMeans : Type 0
@@ -68,22 +66,22 @@ SetupMeans =
 abbrev pub CallingMeans : Type 0
 CallingMeans =
     (cause : ℕ) (more : List ℕ) →
-    ((decoded_of (6 ∷ 0 ∷ cause ∷ 0 ∷ more)).request ≡ Asks (Meets (FromParty NoCause)))
-    × (((decoded_of (6 ∷ 0 ∷ cause ∷ 1 ∷ more)).request ≡ Asks (Meets (FromParty NoCause)))
-    × (((decoded_of (6 ∷ 0 ∷ cause ∷ 2 ∷ more)).request ≡ Asks (Meets (FromParty NoCause)))
-    × (((decoded_of (6 ∷ 1 ∷ cause ∷ 0 ∷ more)).request ≡ Asks (Meets (FromParty (WithCause (record { number = cause })))))
-    × (((decoded_of (6 ∷ 1 ∷ cause ∷ 1 ∷ more)).request ≡ Asks (Meets (FromParty (WithCause (record { number = cause })))))
-    × ((decoded_of (6 ∷ 1 ∷ cause ∷ 2 ∷ more)).request ≡ Asks (Meets (FromParty (WithCause (record { number = cause })))))))))
+    ((decoded_of (6 ∷ 0 ∷ cause ∷ 0 ∷ more)).request ≡ Asks (Meets (FromParty None)))
+    × (((decoded_of (6 ∷ 0 ∷ cause ∷ 1 ∷ more)).request ≡ Asks (Meets (FromParty None)))
+    × (((decoded_of (6 ∷ 0 ∷ cause ∷ 2 ∷ more)).request ≡ Asks (Meets (FromParty None)))
+    × (((decoded_of (6 ∷ 1 ∷ cause ∷ 0 ∷ more)).request ≡ Asks (Meets (FromParty (Some (record { number = cause })))))
+    × (((decoded_of (6 ∷ 1 ∷ cause ∷ 1 ∷ more)).request ≡ Asks (Meets (FromParty (Some (record { number = cause })))))
+    × ((decoded_of (6 ∷ 1 ∷ cause ∷ 2 ∷ more)).request ≡ Asks (Meets (FromParty (Some (record { number = cause })))))))))
 
 -- 7 called release: the same, with crankback none, alternate found, none found (decision 22), and the connection as in a connect
 abbrev pub CalledMeans : Type 0
 CalledMeans =
     (cause s t u v a b : ℕ) (more : List ℕ) → a < 256 → b < 256 →
     let named : List ℕ = s ∷ t ∷ u ∷ v ∷ 0 ∷ 0 ∷ a ∷ b ∷ more in
-    let given : ReceivedCause = WithCause (record { number = cause }) in
-    ((decoded_of (7 ∷ 0 ∷ cause ∷ 0 ∷ named)).request ≡ Asks (Meets (FromDomain (a * 256 + b) NoCause NoCrankback)))
-    × (((decoded_of (7 ∷ 0 ∷ cause ∷ 1 ∷ named)).request ≡ Asks (Meets (FromDomain (a * 256 + b) NoCause AlternateFound)))
-    × (((decoded_of (7 ∷ 0 ∷ cause ∷ 2 ∷ named)).request ≡ Asks (Meets (FromDomain (a * 256 + b) NoCause NoAlternate)))
+    let given : Option ReroutingCause = Some (record { number = cause }) in
+    ((decoded_of (7 ∷ 0 ∷ cause ∷ 0 ∷ named)).request ≡ Asks (Meets (FromDomain (a * 256 + b) None NoCrankback)))
+    × (((decoded_of (7 ∷ 0 ∷ cause ∷ 1 ∷ named)).request ≡ Asks (Meets (FromDomain (a * 256 + b) None AlternateFound)))
+    × (((decoded_of (7 ∷ 0 ∷ cause ∷ 2 ∷ named)).request ≡ Asks (Meets (FromDomain (a * 256 + b) None NoAlternate)))
     × (((decoded_of (7 ∷ 1 ∷ cause ∷ 0 ∷ named)).request ≡ Asks (Meets (FromDomain (a * 256 + b) given NoCrankback)))
     × (((decoded_of (7 ∷ 1 ∷ cause ∷ 1 ∷ named)).request ≡ Asks (Meets (FromDomain (a * 256 + b) given AlternateFound)))
     × ((decoded_of (7 ∷ 1 ∷ cause ∷ 2 ∷ named)).request ≡ Asks (Meets (FromDomain (a * 256 + b) given NoAlternate)))))))
@@ -109,7 +107,7 @@ OctetsInTheirOrder =
     (decoded_of (5 ∷ 1 ∷ 0 ∷ 0 ∷ 1 ∷ 2 ∷ 3 ∷ 4 ∷ 5 ∷ 6 ∷ 7 ∷ 8 ∷ 0 ∷ 0 ∷ 0 ∷ 0 ∷ [])
     ≡ record { key = 16909060; request = Asks (Meets (Setup (record { code = 1 }) 84281096)) })
     × (decoded_of (7 ∷ 1 ∷ 4 ∷ 2 ∷ 4 ∷ 3 ∷ 2 ∷ 1 ∷ 0 ∷ 0 ∷ 9 ∷ 10 ∷ 0 ∷ 0 ∷ 0 ∷ 0 ∷ [])
-    ≡ record { key = 67305985; request = Asks (Meets (FromDomain 2314 (WithCause (record { number = 4 })) NoAlternate)) })
+    ≡ record { key = 67305985; request = Asks (Meets (FromDomain 2314 (Some (record { number = 4 })) NoAlternate)) })
 
 -- 01, "The trace": a connect or a called release with a connection number above 65,535 is bad.
 abbrev pub AboveIsBad : Type 0
@@ -119,9 +117,9 @@ AboveIsBad =
 
 -- the numbers of an event have a place in a record: a connection in two octets, a key and an incarnation number in four, a code and a cause
 -- in one
-abbrev pub CauseFits : ReceivedCause → Type 0
-CauseFits NoCause = Unit {0}
-CauseFits (WithCause c) = c.number < 256
+abbrev pub CauseFits : Option ReroutingCause → Type 0
+CauseFits None = Unit {0}
+CauseFits (Some c) = c.number < 256
 
 abbrev pub EventFits : Event → Type 0
 EventFits Trigger = Unit {0}

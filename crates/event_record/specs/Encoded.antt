@@ -1,11 +1,9 @@
 -- An event record of the trace, written: the octets that a kind does not use are 0 (01, "The trace"; docs/BENCH.md, "script"). Assumes
 -- nothing.
-use Rattle.std.specs.Prelude.{ℕ, ◌/◌, ◌%◌, Bool, true, false, List, [], ◌∷◌, ◌++◌}
+use Rattle.std.specs.Prelude.{ℕ, ◌/◌, ◌%◌, Bool, true, false, List, [], ◌∷◌, ◌++◌, Option, None, Some}
 use Rattle.signal.specs.Numbers.{soft_number, crankback_number}
-use Rattle.signal.specs.declared.ReceivedCause.{ReceivedCause}
-use Rattle.signal.specs.declared.ReceivedCause.TheVariants.{NoCause, WithCause}
-use Rattle.signal.specs.declared.Wanted.{Wanted}
-use Rattle.signal.specs.declared.Wanted.TheVariants.{Unnamed, Named}
+use Rattle.signal.specs.declared.ReroutingCause.{ReroutingCause}
+use Rattle.signal.specs.declared.Services.{Services}
 use Rattle.events.specs.declared.Event.{Event}
 use Rattle.events.specs.declared.Event.TheVariants.{Trigger, PathFound, NoPath, Connect, Setup, FromParty, FromDomain, Ready, Expiry}
 use Rattle.events.specs.declared.Act.{Act}
@@ -25,21 +23,21 @@ flag_number true = 1
 flag_number false = 0
 
 -- whether a cause is there, and its number
-abbrev pub present_number : ReceivedCause → ℕ
-present_number NoCause = 0
-present_number (WithCause c) = 1
+abbrev pub present_number : Option ReroutingCause → ℕ
+present_number None = 0
+present_number (Some c) = 1
 
-abbrev pub cause_number : ReceivedCause → ℕ
-cause_number NoCause = 0
-cause_number (WithCause c) = c.number
+abbrev pub cause_number : Option ReroutingCause → ℕ
+cause_number None = 0
+cause_number (Some c) = c.number
 
 -- bytes 0 to 3, and the number of bytes 8 to 11
 abbrev pub brought : ℕ → ℕ → ℕ → ℕ → ℕ → Values
 brought kind first second third number = record { kind = kind; first = first; second = second; third = third; number = number }
 
-abbrev pub open_values : Wanted → Values
-open_values Unnamed = brought 0 0 0 0 0
-open_values (Named s) = brought 0 1 (flag_number s.hard) (soft_number s.soft) 0
+abbrev pub open_values : Option Services → Values
+open_values None = brought 0 0 0 0 0
+open_values (Some s) = brought 0 1 (flag_number s.hard) (soft_number s.soft) 0
 
 abbrev pub event_values : Event → Values
 event_values Trigger = brought 1 0 0 0 0

@@ -1,12 +1,10 @@
 -- An event record of the trace, read (01, "The trace", and decisions 22 and 23 on what is not read). Assumes nothing.
-use Rattle.std.specs.Prelude.{ℕ, ◌+◌, ◌*◌, cond, List, eqb, ltb, get_or}
+use Rattle.std.specs.Prelude.{ℕ, ◌+◌, ◌*◌, cond, List, eqb, ltb, get_or, Option, None, Some}
 use Rattle.signal.specs.declared.Crankback.{Crankback}
 use Rattle.signal.specs.declared.Crankback.TheVariants.{NoCrankback, AlternateFound, NoAlternate}
-use Rattle.signal.specs.declared.ReceivedCause.{ReceivedCause}
-use Rattle.signal.specs.declared.ReceivedCause.TheVariants.{NoCause, WithCause}
+use Rattle.signal.specs.declared.ReroutingCause.{ReroutingCause}
 use Rattle.signal.specs.declared.Soft.{Soft}
 use Rattle.signal.specs.declared.Soft.TheVariants.{NoSoft, Asymmetric, Symmetric}
-use Rattle.signal.specs.declared.Wanted.TheVariants.{Unnamed, Named}
 use Rattle.events.specs.declared.Event.TheVariants.{Trigger, PathFound, NoPath, Connect, Setup, FromParty, FromDomain, Ready, Expiry}
 use Rattle.events.specs.declared.Act.TheVariants.{Opens, Meets}
 use Rattle.events.specs.declared.Node.{Node}
@@ -30,16 +28,16 @@ abbrev pub crankback_of : ℕ → Crankback
 crankback_of n = cond (eqb n 0) NoCrankback (cond (eqb n 1) AlternateFound NoAlternate)
 
 -- byte 1: whether a cause is there; byte 2 is not read where none is
-abbrev pub cause_of : ℕ → ℕ → ReceivedCause
-cause_of present n = cond (eqb present 0) NoCause (WithCause (record { number = n }))
+abbrev pub cause_of : ℕ → ℕ → Option ReroutingCause
+cause_of present n = cond (eqb present 0) None (Some (record { number = n }))
 
 -- open: byte 1 is 0 for default services, and bytes 2 and 3 are then not read
 abbrev pub open_of : ℕ → ℕ → ℕ → Request
 open_of named hard soft =
-    cond (eqb named 0) (Asks (Opens Unnamed))
+    cond (eqb named 0) (Asks (Opens None))
     (cond (ltb 1 named) Bad
     (cond (ltb 1 hard) Bad
-    (cond (ltb 2 soft) Bad (Asks (Opens (Named (record { hard = eqb hard 1; soft = soft_of soft })))))))
+    (cond (ltb 2 soft) Bad (Asks (Opens (Some (record { hard = eqb hard 1; soft = soft_of soft })))))))
 
 -- connect: byte 1 is policy; a connection number above 65,535 is bad
 abbrev pub connect_of : ℕ → ℕ → Request

@@ -13,7 +13,7 @@ ghost use Rattle.signal.specs.Numbers.{crankback_number};
 ghost use Rattle.events.specs.declared.Event.TheVariants.{FromParty, FromDomain};
 
 use events::{Act, Event, Node};
-use signal::{Crankback, ReceivedCause, ReroutingCause, Services, Soft, Switchover, Wanted};
+use signal::{Crankback, ReroutingCause, Services, Soft, Switchover};
 
 // What the octets before and behind the key ask for.
 #[derive(Clone, Copy)]
@@ -71,20 +71,20 @@ fn crankback(number: u8) -> Crankback
     Crankback::NoAlternate
 }
 
-fn cause(present: u8, number: u8) -> ReceivedCause
+fn cause(present: u8, number: u8) -> Option<ReroutingCause>
     ensures { result ≡ cause_of present number }
 {
     if present == 0 {
-        return ReceivedCause::NoCause;
+        return None;
     }
-    ReceivedCause::WithCause(ReroutingCause { number })
+    Some(ReroutingCause { number })
 }
 
 fn open(named: u8, hard: u8, kind: u8) -> Request
     ensures { result ≡ open_of named hard kind }
 {
     if named == 0 {
-        return Request::Asks(Act::Opens(Wanted::Unnamed));
+        return Request::Asks(Act::Opens(None));
     }
     if 1 < named {
         return Request::Bad;
@@ -99,7 +99,7 @@ fn open(named: u8, hard: u8, kind: u8) -> Request
         hard: hard == 1,
         soft: soft(kind),
     };
-    Request::Asks(Act::Opens(Wanted::Named(services)))
+    Request::Asks(Act::Opens(Some(services)))
 }
 
 fn connect(policy: u8, connection: u32) -> Request
@@ -223,22 +223,16 @@ fn flag_number(flag: bool) -> u8
     0
 }
 
-fn present_number(cause: ReceivedCause) -> u8
+fn present_number(cause: Option<ReroutingCause>) -> u8
     ensures { result ≡ present_number cause }
 {
-    match cause {
-        ReceivedCause::NoCause => 0,
-        ReceivedCause::WithCause(_) => 1,
-    }
+    cause.is_some() as u8
 }
 
-fn cause_number(cause: ReceivedCause) -> u8
+fn cause_number(cause: Option<ReroutingCause>) -> u8
     ensures { result ≡ cause_number cause }
 {
-    match cause {
-        ReceivedCause::NoCause => 0,
-        ReceivedCause::WithCause(given) => given.number,
-    }
+    cause.map_or(0, |given| given.number)
 }
 
 fn crankback_number(back: Crankback) -> u8
@@ -263,25 +257,25 @@ fn brought(kind: u8, first: u8, second: u8, third: u8, number: u32) -> Values
     }
 }
 
-fn open_values(wanted: Wanted) -> Values
+fn open_values(wanted: Option<Services>) -> Values
     ensures { result ≡ open_values wanted }
 {
     match wanted {
-        Wanted::Unnamed => brought(0, 0, 0, 0, 0),
-        Wanted::Named(services) => {
+        None => brought(0, 0, 0, 0, 0),
+        Some(services) => {
             let soft = services.soft;
             brought(0, 1, flag_number(services.hard), soft.number(), 0)
         }
     }
 }
 
-fn calling_values(cause: ReceivedCause) -> Values
+fn calling_values(cause: Option<ReroutingCause>) -> Values
     ensures { result ≡ event_values (FromParty cause) }
 {
     brought(6, present_number(cause), cause_number(cause), 0, 0)
 }
 
-fn called_values(connection: u16, cause: ReceivedCause, back: Crankback) -> Values
+fn called_values(connection: u16, cause: Option<ReroutingCause>, back: Crankback) -> Values
     ensures { result ≡ event_values (FromDomain connection cause back) }
 {
     brought(

@@ -1,9 +1,8 @@
 -- What is claimed of an event in words: by example, for a reader who does not want to follow it word by word. Proofs: proofs/Claims.antt.
 -- Assumes nothing.
-use Rattle.std.specs.Prelude.{◌≡◌}
+use Rattle.std.specs.Prelude.{◌≡◌, None}
 use Rattle.lines.specs.Lines.{ascii}
 use Rattle.signal.specs.declared.Crankback.TheVariants.{NoCrankback}
-use Rattle.signal.specs.declared.ReceivedCause.TheVariants.{NoCause}
 use Rattle.events.specs.declared.Event.TheVariants.{FromParty, FromDomain}
 use Rattle.events.specs.declared.Node.TheVariants.{Source, Destination}
 use Rattle.event_words.specs.Words.{keyless_text}
@@ -12,7 +11,7 @@ use Rattle.event_words.specs.Words.{keyless_text}
 -- connection. At the source that is the called side's, at the destination the calling side's.
 abbrev pub SidesInWords : Type 0
 SidesInWords =
-    (keyless_text Source (FromParty NoCause) ≡ ascii "calling")
-    × ((keyless_text Source (FromDomain 3 NoCause NoCrankback) ≡ ascii "called 3")
-    × ((keyless_text Destination (FromParty NoCause) ≡ ascii "called")
-    × (keyless_text Destination (FromDomain 3 NoCause NoCrankback) ≡ ascii "calling 3")))
+    (keyless_text Source (FromParty None) ≡ ascii "calling")
+    × ((keyless_text Source (FromDomain 3 None NoCrankback) ≡ ascii "called 3")
+    × ((keyless_text Destination (FromParty None) ≡ ascii "called")
+    × (keyless_text Destination (FromDomain 3 None NoCrankback) ≡ ascii "calling 3")))

@@ -1,15 +1,13 @@
 -- An event in words, with its key, as a line of `script` has them (docs/BENCH.md), or without: the event's name, and every other word
 -- behind a blank. Assumes nothing.
-use Rattle.std.specs.Prelude.{ℕ, Bool, true, false, cond, List, [], ◌++◌, eqb}
+use Rattle.std.specs.Prelude.{ℕ, Bool, true, false, cond, List, [], ◌++◌, eqb, Option, None, Some}
 use Rattle.lines.specs.Lines.{ascii, number_text}
 use Rattle.signal.specs.declared.Crankback.{Crankback}
 use Rattle.signal.specs.declared.Crankback.TheVariants.{NoCrankback, AlternateFound, NoAlternate}
-use Rattle.signal.specs.declared.ReceivedCause.{ReceivedCause}
-use Rattle.signal.specs.declared.ReceivedCause.TheVariants.{NoCause, WithCause}
+use Rattle.signal.specs.declared.ReroutingCause.{ReroutingCause}
+use Rattle.signal.specs.declared.Services.{Services}
 use Rattle.signal.specs.declared.Soft.{Soft}
 use Rattle.signal.specs.declared.Soft.TheVariants.{NoSoft, Asymmetric, Symmetric}
-use Rattle.signal.specs.declared.Wanted.{Wanted}
-use Rattle.signal.specs.declared.Wanted.TheVariants.{Unnamed, Named}
 use Rattle.events.specs.declared.Event.{Event}
 use Rattle.events.specs.declared.Event.TheVariants.{Trigger, PathFound, NoPath, Connect, Setup, FromParty, FromDomain, Ready, Expiry}
 use Rattle.events.specs.declared.Act.{Act}
@@ -31,9 +29,9 @@ soft_text NoSoft = ascii " none"
 soft_text Asymmetric = ascii " asymmetric"
 soft_text Symmetric = ascii " symmetric"
 
-abbrev pub wanted_text : Wanted → List ℕ
-wanted_text Unnamed = []
-wanted_text (Named s) = hard_text s.hard ++ soft_text s.soft
+abbrev pub wanted_text : Option Services → List ℕ
+wanted_text None = []
+wanted_text (Some s) = hard_text s.hard ++ soft_text s.soft
 
 -- local policy
 abbrev pub policy_text : Bool → List ℕ
@@ -44,9 +42,9 @@ policy_text false = ascii " no"
 abbrev pub switchover_text : ℕ → List ℕ
 switchover_text n = cond (eqb n 0) (ascii " immediate") (cond (eqb n 1) (ascii " clearing") (then_number n))
 
-abbrev pub received_cause_text : ReceivedCause → List ℕ
-received_cause_text NoCause = []
-received_cause_text (WithCause c) = ascii " cause" ++ then_number c.number
+abbrev pub received_cause_text : Option ReroutingCause → List ℕ
+received_cause_text None = []
+received_cause_text (Some c) = ascii " cause" ++ then_number c.number
 
 abbrev pub crankback_text : Crankback → List ℕ
 crankback_text NoCrankback = []

@@ -12,7 +12,7 @@ ghost use Rattle.event_words.specs.Words.{values_text, keyless_text, brought_tex
 ghost use Rattle.events.specs.declared.Event.TheVariants.{Connect, Setup, FromDomain};
 
 use events::{Act, Event, Node};
-use signal::{Crankback, ReceivedCause, Soft, Switchover, Wanted};
+use signal::{Crankback, ReroutingCause, Services, Soft, Switchover};
 
 // A number behind a blank.
 fn put_then(out: &mut [u8], at: usize, number: u64) -> usize
@@ -41,12 +41,12 @@ fn put_soft(out: &mut [u8], at: usize, soft: Soft) -> usize
     }
 }
 
-fn put_wanted(out: &mut [u8], at: usize, wanted: Wanted) -> usize
+fn put_wanted(out: &mut [u8], at: usize, wanted: Option<Services>) -> usize
     ensures { page out.new result ≡ put_text (page out.old at) (wanted_text wanted) }
 {
     match wanted {
-        Wanted::Unnamed => at,
-        Wanted::Named(services) => {
+        None => at,
+        Some(services) => {
             let soft = services.soft;
             let place = put_hard(out, at, services.hard);
             put_soft(out, place, soft)
@@ -75,12 +75,12 @@ fn put_switchover(out: &mut [u8], at: usize, code: u8) -> usize
     put_then(out, at, code as u64)
 }
 
-fn put_cause(out: &mut [u8], at: usize, cause: ReceivedCause) -> usize
+fn put_cause(out: &mut [u8], at: usize, cause: Option<ReroutingCause>) -> usize
     ensures { page out.new result ≡ put_text (page out.old at) (received_cause_text cause) }
 {
     match cause {
-        ReceivedCause::NoCause => at,
-        ReceivedCause::WithCause(given) => {
+        None => at,
+        Some(given) => {
             let place = lines::put_word(out, at, b" cause");
             put_then(out, place, given.number as u64)
         }
@@ -160,7 +160,7 @@ fn put_called(
     out: &mut [u8],
     at: usize,
     connection: u16,
-    cause: ReceivedCause,
+    cause: Option<ReroutingCause>,
     back: Crankback,
 ) -> usize
     ensures { page out.new result ≡ put_text (page out.old at) (values_text (FromDomain connection cause back)) }

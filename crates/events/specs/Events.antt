@@ -1,7 +1,6 @@
 -- What each event reports, brings and stores, at either end of a call (01, "Events and rows"). Assumes nothing.
-use Rattle.std.specs.Prelude.{ℕ, Bool, true, false, List, [], ◌∷◌}
-use Rattle.signal.specs.declared.ReceivedCause.{ReceivedCause}
-use Rattle.signal.specs.declared.ReceivedCause.TheVariants.{NoCause}
+use Rattle.std.specs.Prelude.{ℕ, Bool, true, false, List, [], ◌∷◌, Option, None}
+use Rattle.signal.specs.declared.ReroutingCause.{ReroutingCause}
 use Rattle.events.specs.declared.Event.{Event}
 use Rattle.events.specs.declared.Event.TheVariants.{Trigger, PathFound, NoPath, Connect, Setup, FromParty, FromDomain, Ready, Expiry}
 
@@ -18,16 +17,16 @@ reported Ready = []
 reported Expiry = []
 
 -- the Rerouting cause that an event brings
-abbrev pub received_in : Event → ReceivedCause
-received_in Trigger = NoCause
-received_in PathFound = NoCause
-received_in NoPath = NoCause
-received_in (Connect c agreed) = NoCause
-received_in (Setup code number) = NoCause
+abbrev pub received_in : Event → Option ReroutingCause
+received_in Trigger = None
+received_in PathFound = None
+received_in NoPath = None
+received_in (Connect c agreed) = None
+received_in (Setup code number) = None
 received_in (FromParty cause) = cause
 received_in (FromDomain c cause tried) = cause
-received_in Ready = NoCause
-received_in Expiry = NoCause
+received_in Ready = None
+received_in Expiry = None
 
 -- the incarnation number that an event brings: a setup's
 abbrev pub setup_number : Event → List ℕ

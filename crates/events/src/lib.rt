@@ -3,7 +3,7 @@
 // destination node it is the other way round.
 #![tactic(auto)]
 
-use signal::{Crankback, ReceivedCause, Switchover, Wanted};
+use signal::{Crankback, ReroutingCause, Services, Switchover};
 
 // An end of a call. It is named only where the two differ: in whose release names a connection, since that comes from across the domain.
 #[derive(Clone, Copy)]
@@ -23,9 +23,9 @@ pub enum Event {
     // the switchover code and the incarnation number
     Setup(Switchover, u32),
     // a release from the side of the node's own party
-    FromParty(ReceivedCause),
+    FromParty(Option<ReroutingCause>),
     // a release from across the domain, for a connection
-    FromDomain(u16, ReceivedCause, Crankback),
+    FromDomain(u16, Option<ReroutingCause>, Crankback),
     Ready,
     Expiry,
 }
@@ -33,7 +33,7 @@ pub enum Event {
 // What is done with a key: a call is opened, or an event meets it.
 #[derive(Clone, Copy)]
 pub enum Act {
-    Opens(Wanted),
+    Opens(Option<Services>),
     Meets(Event),
 }
 

@@ -1,11 +1,12 @@
 -- The promises of specs/Claims, each by what carries it, of any end whose half keeps the laws and whose number check is its own. Assumes nothing.
 use Prim.Native.Nat.{ℕ}
 use mathlib.Core.Path.{◌≡◌}
+use Rattle.std.specs.Prelude.{Option}
 use Rattle.runs.proofs.Demand.{laws_keep_demand_three}
 use Rattle.runs.proofs.Exact.{one_number_leaves_one_control}
 use Rattle.runs.specs.Exact.{OneNumber, sent_for, stored_for}
 use Rattle.runs.specs.Run.{Does, Table, meets, opens}
-use Rattle.signal.specs.declared.Wanted.{Wanted}
+use Rattle.signal.specs.declared.Services.{Services}
 use Rattle.events.specs.declared.Event.{Event}
 use Rattle.call.specs.Claims.{Lawful}
 use Rattle.call.specs.Events.{Half}
@@ -27,7 +28,7 @@ module _ (half : Half) (L : Lawful half) where
   pub answers_exactly : claim.AnswersExactly half (ours half)
   answers_exactly ys a = (row half L).given_exactly ys a.key (as_act a.does)
 
-  does_exactly_by : (ys : Table calls) (k : ℕ) (does : Does Wanted Event) → table.answered half ys k (as_act does) ≡ 0 →
+  does_exactly_by : (ys : Table calls) (k : ℕ) (does : Does (Option Services) Event) → table.answered half ys k (as_act does) ≡ 0 →
       (table_of half ys k (as_act does) ≡ stored_for calls (document half) ys k does) × ((ran_of half ys k (as_act does)).done.signals ≡ sent_for calls (document half) ys k does)
   does_exactly_by ys k (opens w) done = (row half L).opening_takes_its_record ys k w done
   does_exactly_by ys k (meets e) done = (row half L).event_changes_its_call ys k e done

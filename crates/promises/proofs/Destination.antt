@@ -8,13 +8,13 @@ use mathlib.Core.Path.{◌∙◌, ◌≡◌, ap, refl, subst, sym}
 use lib.Dec.{eqb}
 use lib.ListN.{get_or}
 use borrow.Author.Tests.{eqb-false, lt-leb, lt-ltb, ne_eqb}
+use Rattle.std.specs.Prelude.{None}
 use Rattle.distinct.specs.Distinct.{distinct_of, has}
 use Rattle.lent.specs.Search.{read_from}
 use Rattle.runs.specs.Run.{call_by_key}
 use Rattle.signal.specs.Causes.{unsupported}
 use Rattle.signal.specs.Counting.{one}
 use Rattle.signal.specs.Numbers.{has_soft}
-use Rattle.signal.specs.declared.ReceivedCause.TheVariants.{NoCause}
 use Rattle.signal.specs.declared.ReroutingCause.{ReroutingCause}
 use Rattle.signal.specs.declared.Soft.{Soft}
 use Rattle.signal.specs.declared.Soft.TheVariants.{Asymmetric, NoSoft, Symmetric}
@@ -129,7 +129,7 @@ module _ (c : Call) (number : ℕ) (room : c.last < 65535) where
   -- a rule that takes the setup as a hard one: it answers 0, holds the next number alone, and stores the setup's
   abbrev TakesHard : Rule → Type 0
   TakesHard rule =
-      let o = carried_out c number (effect Destination c.state (c.last + 1) NoCause rule) in
+      let o = carried_out c number (effect Destination c.state (c.last + 1) None rule) in
       (answer_given o ≡ 0) × (o.call ≡ moved_to c (HardUnderway (c.last + 1)) (c.last + 1) number)
 
   newly_hard_lem : TakesHard (storing newly_hard)

@@ -5,12 +5,13 @@ use mathlib.Core.Bool.{cond, false}
 use mathlib.Core.List.{[], ◌∷◌}
 use mathlib.Core.Logic.{inl, inr}
 use mathlib.Core.Path.{◌∙◌, ◌≡◌, ap, refl, subst, sym}
+use Rattle.std.specs.Prelude.{Option}
 use Rattle.runs.proofs.Demand.{demand_three_says}
 use Rattle.runs.specs.Late.{LateOrUnsupported, Rejected}
 use Rattle.runs.specs.Run.{Does, KeyedRequest, Reply, meets}
 use Rattle.signal.specs.Causes.{old_number, unsupported}
 use Rattle.signal.specs.declared.Switchover.{Switchover}
-use Rattle.signal.specs.declared.Wanted.{Wanted}
+use Rattle.signal.specs.declared.Services.{Services}
 use Rattle.events.specs.declared.Event.{Event}
 use Rattle.events.specs.declared.Event.TheVariants.{Setup}
 use Rattle.call_table.specs.Bench.{clearing}
@@ -19,7 +20,7 @@ use Rattle.promises.specs.Ends.{Sieve, calls, numbering}
 use Rattle.promises.specs.Inserted.{InWords, awaiting, awaiting_call, b1_to_b3, b4, b5, rejection_reply}
 use Rattle.promises.specs.Inserted as claim
 
-pub same_event : {d e : Event} → ◌≡◌ {A = Does Wanted Event} (meets d) (meets e) → d ≡ e
+pub same_event : {d e : Event} → ◌≡◌ {A = Does (Option Services) Event} (meets d) (meets e) → d ≡ e
 same_event is = cc
 
 -- ---- the bench run

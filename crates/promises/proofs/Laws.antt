@@ -8,6 +8,7 @@ use mathlib.Core.Path.{◌∙◌, ◌≡◌, ap, refl, subst, sym}
 use lib.Dec.{eqb, ltb}
 use lib.ListN.{get_or, length}
 use borrow.Author.Tests.{eqb-false, lt-ltb}
+use Rattle.std.specs.Prelude.{Option}
 use Rattle.runs.proofs.Keyed.{has_key}
 use Rattle.runs.specs.Account.{LawfulControl, Lives, Met, Opened, given_between}
 use Rattle.runs.specs.Run.{meets, opens}
@@ -16,7 +17,7 @@ use Rattle.signal.specs.Counting.{count, ended_sent, named, of_kind, one}
 use Rattle.signal.specs.Numbers.{answer_number}
 use Rattle.signal.specs.declared.Kind.TheVariants.{SetupRequest}
 use Rattle.signal.specs.declared.Signal.{Signal}
-use Rattle.signal.specs.declared.Wanted.{Wanted}
+use Rattle.signal.specs.declared.Services.{Services}
 use Rattle.events.specs.Events.{reported}
 use Rattle.events.specs.declared.Act.{Act}
 use Rattle.events.specs.declared.Act.TheVariants.{Meets, Opens}
@@ -102,7 +103,7 @@ module _ (half : Half) (L : Lawful half) where
       by_tests false nought f n e = absurd (omega arith)
 
   -- ---- openings
-  opening_law : (ys : List Call) (k : ℕ) (w : Wanted) → table.answered half ys k (Opens w) ≡ 0 → Opened calls ys k (ours half ys (record { key = k; does = opens w }))
+  opening_law : (ys : List Call) (k : ℕ) (w : Option Services) → table.answered half ys k (Opens w) ≡ 0 → Opened calls ys k (ours half ys (record { key = k; does = opens w }))
   opening_law ys k w done =
       let found = by_tests (table.has_call k ys) (table.has_call 0 ys) refl refl (done_fit ys k (Opens w) done).1.1 in
       let stored = row.opening_takes_its_record ys k w done in

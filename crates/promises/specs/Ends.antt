@@ -1,7 +1,7 @@
 -- Either end of a call, and its control over a table: what `call_table::handle` is proved to do by the rows of that end. Both ends have
 -- their records, openings, events and signals in common (`calls`); they differ in their half of the control, and in the setups that they
 -- take and support (`Sieve`). "Decision N" is a point of docs/DECISIONS.md. Assumes nothing.
-use Rattle.std.specs.Prelude.{◌≤◌, ℕ, Bool, ◌||◌, cond, false, not, true, List, [], ◌∷◌, ◌≡◌}
+use Rattle.std.specs.Prelude.{◌≤◌, ℕ, Bool, ◌||◌, cond, false, not, true, List, [], ◌∷◌, ◌≡◌, Option}
 use Rattle.runs.specs.Exact.{Document}
 use Rattle.runs.specs.Late.{Numbering}
 use Rattle.runs.specs.Run.{Control, Does, End, meets, opens}
@@ -12,7 +12,7 @@ use Rattle.signal.specs.Signals.{places, rejection}
 use Rattle.signal.specs.declared.Kind.TheVariants.{SetupRequest}
 use Rattle.signal.specs.declared.Signal.{Signal}
 use Rattle.signal.specs.declared.Switchover.{Switchover}
-use Rattle.signal.specs.declared.Wanted.{Wanted}
+use Rattle.signal.specs.declared.Services.{Services}
 use Rattle.events.specs.Events.{reported, setup_number}
 use Rattle.events.specs.declared.Act.{Act}
 use Rattle.events.specs.declared.Act.TheVariants.{Meets, Opens}
@@ -33,7 +33,7 @@ abbrev pub calls : End
 calls =
     record {
       Record = Call;
-      Wanted = Wanted;
+      Wanted = Option Services;
       Event = Event;
       Signals = List Signal;
       empty = emptied;
@@ -46,7 +46,7 @@ calls =
       requested = λ ss. named (of_kind SetupRequest ss);
     }
 
-abbrev pub as_act : Does Wanted Event → Act
+abbrev pub as_act : Does (Option Services) Event → Act
 as_act (opens w) = Opens w
 as_act (meets e) = Meets e
 

@@ -1,6 +1,6 @@
 -- What demand 3 inserts is there, at both ends: on the bench run (01) a late and an unsupported setup behind B3, and such setups for every
 -- call that takes setups, said in words. Without these the demand could be kept by saying nothing. Assumes nothing.
-use Rattle.std.specs.Prelude.{◌+◌, ◌<◌, ◌≤◌, ℕ, false, true, List, [], ◌∷◌, ◌↔◌, ◌⊎◌, ◌≡◌}
+use Rattle.std.specs.Prelude.{◌+◌, ◌<◌, ◌≤◌, ℕ, false, true, List, [], ◌∷◌, ◌↔◌, ◌⊎◌, ◌≡◌, Some}
 use Rattle.lent.specs.Keyed.{on_record}
 use Rattle.runs.specs.Demand.{LateInserted}
 use Rattle.runs.specs.Late.{Late, LateOrUnsupported, Unsupported}
@@ -11,7 +11,6 @@ use Rattle.signal.specs.Signals.{places, rejection}
 use Rattle.signal.specs.declared.ReroutingCause.{ReroutingCause}
 use Rattle.signal.specs.declared.Soft.TheVariants.{Asymmetric, Symmetric}
 use Rattle.signal.specs.declared.Switchover.{Switchover}
-use Rattle.signal.specs.declared.Wanted.TheVariants.{Named}
 use Rattle.events.specs.declared.Event.TheVariants.{Ready, Setup}
 use Rattle.rows.specs.States.{is_hard}
 use Rattle.rows.specs.declared.State.TheVariants.{Awaiting, HardUnderway as HardInitiated}
@@ -29,7 +28,7 @@ setup_by k code number = record { key = k; does = meets (Setup code number) }
 
 -- ---- the bench run, by key 7, over a table of one record
 abbrev pub b1 : KeyedRequest calls
-b1 = record { key = 7; does = opens (Named (record { hard = true; soft = Symmetric })) }
+b1 = record { key = 7; does = opens (Some (record { hard = true; soft = Symmetric })) }
 
 abbrev pub b2 : KeyedRequest calls
 b2 = setup_by 7 clearing 3

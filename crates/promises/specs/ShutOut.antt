@@ -2,7 +2,7 @@
 -- break demand 3 each in a way of its own. The first two are such a control at any end, the others are ours of that end, altered (the means
 -- to alter one are in runs, specs/ShutOut); each breaks a promise that ours keeps, over a table and a request, or at a run, that are
 -- written out here and are the same at both ends. Proofs: proofs/ShutOut. Assumes nothing.
-use Rattle.std.specs.Prelude.{◌+◌, suc, zero, ℕ, Bool, ◌&&◌, cond, false, true, List, [], ◌∷◌, map, ◌≡◌, eqb}
+use Rattle.std.specs.Prelude.{◌+◌, suc, zero, ℕ, Bool, ◌&&◌, cond, false, true, List, [], ◌∷◌, map, ◌≡◌, eqb, Option, None}
 use Rattle.lent.specs.Keyed.{replaced_for}
 use Rattle.runs.specs.Demand.{AccountAt, LateInserted}
 use Rattle.runs.specs.Exact.{AnswersAt, DoesAt}
@@ -14,8 +14,7 @@ use Rattle.signal.specs.Signals.{none, setup_on}
 use Rattle.signal.specs.declared.Kind.TheVariants.{SetupRequest}
 use Rattle.signal.specs.declared.Signal.{Signal}
 use Rattle.signal.specs.declared.Soft.TheVariants.{Symmetric}
-use Rattle.signal.specs.declared.Wanted.{Wanted}
-use Rattle.signal.specs.declared.Wanted.TheVariants.{Unnamed}
+use Rattle.signal.specs.declared.Services.{Services}
 use Rattle.events.specs.Events.{setup_number}
 use Rattle.events.specs.declared.Event.{Event}
 use Rattle.events.specs.declared.Event.TheVariants.{Connect, PathFound, Ready, Trigger}
@@ -33,7 +32,7 @@ use Rattle.runs.specs.ShutOut as control
 -- ---- the tables and requests
 -- an opening of key 7, over no record and over an empty one
 abbrev pub opening : KeyedRequest calls
-opening = record { key = 7; does = opens Unnamed }
+opening = record { key = 7; does = opens None }
 
 -- B2's table, and "ready"
 abbrev pub initiated : Table calls
@@ -87,7 +86,7 @@ abbrev pub misnamed : Signal → Signal
 misnamed s = cond (eqb (kind_number s.kind) (kind_number SetupRequest)) (setup_on (s.connection + 1)) s
 
 -- a setup with that number
-abbrev pub has_number : ℕ → Does Wanted Event → Bool
+abbrev pub has_number : ℕ → Does (Option Services) Event → Bool
 has_number n (opens w) = false
 has_number n (meets e) = among n (setup_number e)
 

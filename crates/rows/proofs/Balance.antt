@@ -7,11 +7,12 @@ use mathlib.Core.List.{List, [], ◌++◌, ◌∷◌}
 use mathlib.Core.Path.{◌∙◌, ◌≡◌, ap, refl}
 use lib.ListN.{length}
 use borrow.Author.Tests.{eqb-true, leb-true}
+use Rattle.std.specs.Prelude.{Option}
 use Rattle.signal.proofs.Counting.{count_append}
 use Rattle.signal.specs.Counting.{count, ended_sent, one}
 use Rattle.signal.specs.Signals.{places}
 use Rattle.signal.specs.declared.Kind.TheVariants.{IncumbentRelease, ReroutingRelease}
-use Rattle.signal.specs.declared.ReceivedCause.{ReceivedCause}
+use Rattle.signal.specs.declared.ReroutingCause.{ReroutingCause}
 use Rattle.signal.specs.declared.Signal.{Signal}
 use Rattle.events.specs.Events.{received_in, reported}
 use Rattle.events.specs.declared.Event.{Event}
@@ -97,23 +98,23 @@ switch_ends s n OldIncumbent = refl
 switch_ends s n OldRerouting = refl
 switch_ends s n NewNumber = refl
 
-party_ends : (node : Node) (got : ReceivedCause) (t : Told) → ended_sent (told_sent (party_kind node) 0 got t) ≡ []
+party_ends : (node : Node) (got : Option ReroutingCause) (t : Told) → ended_sent (told_sent (party_kind node) 0 got t) ≡ []
 party_ends Source got Untold = refl
 party_ends Source got (Tells say code) = refl
 party_ends Destination got Untold = refl
 party_ends Destination got (Tells say code) = refl
 
-retires_ends : (s : State) (n : ℕ) (got : ReceivedCause) (t : Told) →
+retires_ends : (s : State) (n : ℕ) (got : Option ReroutingCause) (t : Told) →
     ended_sent (told_sent IncumbentRelease (incumbent_of s) got t) ≡ values_of s n (cond (is_told t) (OldIncumbent ∷ []) [])
 retires_ends s n got Untold = refl
 retires_ends s n got (Tells say code) = refl
 
-drops_ends : (s : State) (n : ℕ) (got : ReceivedCause) (t : Told) →
+drops_ends : (s : State) (n : ℕ) (got : Option ReroutingCause) (t : Told) →
     ended_sent (told_sent ReroutingRelease (rerouting_of s) got t) ≡ values_of s n (cond (is_told t) (OldRerouting ∷ []) [])
 drops_ends s n got Untold = refl
 drops_ends s n got (Tells say code) = refl
 
-closing_ends : (s : State) (n : ℕ) (got : ReceivedCause) (x : Closing) → ended_sent (closing_sent s n got x) ≡ []
+closing_ends : (s : State) (n : ℕ) (got : Option ReroutingCause) (x : Closing) → ended_sent (closing_sent s n got x) ≡ []
 closing_ends s n got NoClosing = refl
 closing_ends s n got (SendsSetup slot) = refl
 closing_ends s n got (SendsConnect slot) = refl
@@ -126,7 +127,7 @@ pad_ends (a ∷ (b ∷ [])) = refl
 pad_ends (a ∷ (b ∷ (c ∷ []))) = refl
 pad_ends (a ∷ (b ∷ (c ∷ (d ∷ more)))) = refl
 
-ended_is : (node : Node) (s : State) (n : ℕ) (got : ReceivedCause) (rule : Rule) →
+ended_is : (node : Node) (s : State) (n : ℕ) (got : Option ReroutingCause) (rule : Rule) →
     ended_sent (sent_by node s n got rule) ≡ values_of s n (ended_slots rule)
 ended_is node s n got rule =
     simp (ended_append, timer_ends, switch_ends, party_ends, retires_ends s n got rule.retires, drops_ends s n got rule.drops, closing_ends, append_none, values_append)

@@ -5,8 +5,7 @@ use mathlib.Core.Logic.{◌↔◌}
 use mathlib.Core.Path.{◌∙◌, ◌≡◌, ap, refl, sym}
 use lib.Dec.{eqb}
 use borrow.Author.Tests.{eqb-true, lt-ltb, ltb-true}
-use Rattle.signal.specs.declared.ReceivedCause.{ReceivedCause}
-use Rattle.signal.specs.declared.ReceivedCause.TheVariants.{NoCause, WithCause}
+use Rattle.std.specs.Prelude.{Option, None, Some}
 use Rattle.signal.specs.declared.ReroutingCause.{ReroutingCause}
 use Rattle.rows.proofs.Wanted.{its_incumbent}
 use Rattle.rows.specs.Cases.{NamesIncumbent, NamesOther, NamesRerouting, Standing, class_of, is_incumbent, is_rerouting}
@@ -41,20 +40,20 @@ unnamed true b p = cc
 unnamed false true p = cc
 unnamed false false p = refl
 
-some_came : (k : ReroutingCause) (a b : Bool) → cond a CameOutside (cond b CameComplete CameOther) ≡ CameNone → WithCause k ≡ NoCause
+some_came : (k : ReroutingCause) (a b : Bool) → cond a CameOutside (cond b CameComplete CameOther) ≡ CameNone → Some k ≡ None
 some_came k true b p = cc
 some_came k false true p = cc
 some_came k false false p = cc
 
-complete_came : (k : ReroutingCause) → (class_of (WithCause k) ≡ CameComplete) ↔ (k.number ≡ 4)
+complete_came : (k : ReroutingCause) → (class_of (Some k) ≡ CameComplete) ↔ (k.number ≡ 4)
 complete_came k = (λ p. eqb-true k.number 4 (chose_second (λ q. cc) (λ q. cc) (eqb k.number 1) _ p), λ q. rw q)
 
-outside_came : (k : ReroutingCause) → (class_of (WithCause k) ≡ CameOutside) ↔ (k.number ≡ 1)
+outside_came : (k : ReroutingCause) → (class_of (Some k) ≡ CameOutside) ↔ (k.number ≡ 1)
 outside_came k = (λ p. eqb-true k.number 1 (chose_first (λ q. cc) (λ q. cc) _ (eqb k.number 4) p), λ q. rw q)
 
-none_came : (got : ReceivedCause) → class_of got ≡ CameNone → got ≡ NoCause
-none_came NoCause p = refl
-none_came (WithCause k) p = some_came k (eqb k.number 1) (eqb k.number 4) p
+none_came : (got : Option ReroutingCause) → class_of got ≡ CameNone → got ≡ None
+none_came None p = refl
+none_came (Some k) p = some_came k (eqb k.number 1) (eqb k.number 4) p
 
 pub class_exactly : claim.ClassExactly
 class_exactly = record { none = λ got. (none_came got, λ q. rw q); outside = outside_came; complete = complete_came }
@@ -133,8 +132,8 @@ case_hands_on x =
       expiry = refl;
     }
 
-pub said_exactly : (got : ReceivedCause) → claim.SaidExactly got
-said_exactly NoCause =
+pub said_exactly : (got : Option ReroutingCause) → claim.SaidExactly got
+said_exactly None =
     record {
       nothing = refl;
       number1 = refl;
@@ -146,7 +145,7 @@ said_exactly NoCause =
       as_came = λ k. (λ p. cc, λ q. cc);
       came_not = (λ p. refl, λ q. refl);
     }
-said_exactly (WithCause j) =
+said_exactly (Some j) =
     record {
       nothing = refl;
       number1 = refl;

@@ -4,8 +4,8 @@ use Prim.Native.Nat.{◌+◌}
 use mathlib.Core.Bool.{Bool, ◌||◌, false, not, true}
 use mathlib.Core.List.{List, [], ◌∷◌}
 use mathlib.Core.Path.{◌∙◌, ◌≡◌, ap, refl}
+use Rattle.std.specs.Prelude.{None}
 use Rattle.signal.specs.Numbers.{fresh_after}
-use Rattle.signal.specs.declared.Fresh.TheVariants.{Spent}
 use Rattle.events.specs.Events.{received_in}
 use Rattle.events.specs.declared.Event.{Event}
 use Rattle.rows.proofs.Every.{Each, case_in, each}
@@ -103,7 +103,7 @@ module _ (p : Page) where
 
     -- an event that gives no number does the same whatever the next number is
     pub none_is : may_give (happening_of x.state x.remote e) ≡ false →
-        carried_at p.demands.node x.state Spent (received_in e) row ≡ done_by p.demands.node p.page x e
+        carried_at p.demands.node x.state None (received_in e) row ≡ done_by p.demands.node p.page x e
     none_is never =
         either p.demands.node x.state 0 (x.last + 1) (received_in e) row
         (not_so (gives_new row)

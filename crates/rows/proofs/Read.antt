@@ -6,9 +6,9 @@ use mathlib.Core.Bool.{Bool, cond, false, true}
 use mathlib.Core.Path.{◌≡◌, ap, refl}
 use lib.Dec.{eqb}
 use borrow.Author.Tests.{eqb-true}
+use Rattle.std.specs.Prelude.{Option, None, Some}
 use Rattle.signal.specs.Numbers.{is_clearing}
-use Rattle.signal.specs.declared.ReceivedCause.{ReceivedCause}
-use Rattle.signal.specs.declared.ReceivedCause.TheVariants.{NoCause, WithCause}
+use Rattle.signal.specs.declared.ReroutingCause.{ReroutingCause}
 use Rattle.signal.specs.declared.Switchover.{Switchover}
 use Rattle.rows.proofs.Claims.{phase_exactly}
 use Rattle.rows.specs.Cases.{AsksClearing, AsksImmediate, AsksOther, asking_of, asks_clearing, came_none, class_of}
@@ -36,9 +36,9 @@ clearing_is code = by (eqb code.code 0) (eqb code.code 1) refl refl
     by false true p q = refl
     by false false p q = refl
 
-pub missing_is : (cause : ReceivedCause) → came_none (class_of cause) ≡ has_no_cause cause
-missing_is NoCause = refl
-missing_is (WithCause k) = by (eqb k.number 1) (eqb k.number 4)
+pub missing_is : (cause : Option ReroutingCause) → came_none (class_of cause) ≡ has_no_cause cause
+missing_is None = refl
+missing_is (Some k) = by (eqb k.number 1) (eqb k.number 4)
   where
     by : (a b : Bool) → came_none (cond a CameOutside (cond b CameComplete CameOther)) ≡ false
     by true b = refl

@@ -6,10 +6,11 @@ use mathlib.Core.List.{List, [], ◌++◌, ◌∷◌}
 use mathlib.Core.Path.{◌≡◌, ap, refl}
 use lib.Dec.{eqb}
 use lib.ListN.{length, length-append}
+use Rattle.std.specs.Prelude.{Option}
 use Rattle.signal.specs.Counting.{ended_sent, ends_connection, kind_number, of_kind}
 use Rattle.signal.specs.Signals.{none, places}
 use Rattle.signal.specs.declared.Kind.{Kind}
-use Rattle.signal.specs.declared.ReceivedCause.{ReceivedCause}
+use Rattle.signal.specs.declared.ReroutingCause.{ReroutingCause}
 use Rattle.signal.specs.declared.Signal.{Signal}
 use Rattle.events.specs.declared.Node.{Node}
 use Rattle.rows.specs.Effects.{closing_sent, sent_by, switch_sent, timer_sent, told_sent}
@@ -29,18 +30,18 @@ switch_length s n OldIncumbent = refl
 switch_length s n OldRerouting = refl
 switch_length s n NewNumber = refl
 
-told_length : (k : Kind) (n : ℕ) (got : ReceivedCause) (t : Told) → length (told_sent k n got t) ≡ once (is_told t)
+told_length : (k : Kind) (n : ℕ) (got : Option ReroutingCause) (t : Told) → length (told_sent k n got t) ≡ once (is_told t)
 told_length k n got Untold = refl
 told_length k n got (Tells say code) = refl
 
-closing_length : (s : State) (n : ℕ) (got : ReceivedCause) (x : Closing) → length (closing_sent s n got x) ≡ once (is_closed x)
+closing_length : (s : State) (n : ℕ) (got : Option ReroutingCause) (x : Closing) → length (closing_sent s n got x) ≡ once (is_closed x)
 closing_length s n got NoClosing = refl
 closing_length s n got (SendsSetup slot) = refl
 closing_length s n got (SendsConnect slot) = refl
 closing_length s n got (Rejects say code) = refl
 
 -- a rule sends as many signals as it says
-pub sent_length : (node : Node) (s : State) (n : ℕ) (got : ReceivedCause) (rule : Rule) → length (sent_by node s n got rule) ≡ sends rule
+pub sent_length : (node : Node) (s : State) (n : ℕ) (got : Option ReroutingCause) (rule : Rule) → length (sent_by node s n got rule) ≡ sends rule
 sent_length node s n got rule = simp (length-append, timer_length, switch_length, told_length, closing_length)
 
 -- what fills the places up

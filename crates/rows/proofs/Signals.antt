@@ -7,13 +7,13 @@ use mathlib.Core.Path.{◌∙◌, ◌≡◌, ap, refl, sym}
 use lib.Dec.{eqb, ltb}
 use lib.ListN.{length}
 use borrow.Author.Tests.{eq-eqb, eqb-true, lt-ltb, ltb-true}
+use Rattle.std.specs.Prelude.{Option, None, Some}
 use Rattle.signal.specs.Counting.{CameSo, Honest, in_order, kind_number, named, of_kind, turn_of}
 use Rattle.signal.specs.Signals.{places}
 use Rattle.signal.specs.declared.Kind.{Kind}
 use Rattle.signal.specs.declared.Kind.TheVariants.{CalledRelease, CallingRelease, ConnectRequest, IncumbentRelease, NoSignal, Rejection}
 use Rattle.signal.specs.declared.Kind.TheVariants.{ReroutingRelease, SetupRequest, Switch, TimerStart, TimerStop}
-use Rattle.signal.specs.declared.ReceivedCause.{ReceivedCause}
-use Rattle.signal.specs.declared.ReceivedCause.TheVariants.{NoCause, WithCause}
+use Rattle.signal.specs.declared.ReroutingCause.{ReroutingCause}
 use Rattle.signal.specs.declared.Signal.{Signal}
 use Rattle.events.specs.Events.{is_expiry, is_from_party, number_brought, received_in}
 use Rattle.events.specs.declared.Event.{Event}
@@ -62,18 +62,18 @@ switch_other k h s n OldIncumbent = simp h
 switch_other k h s n OldRerouting = simp h
 switch_other k h s n NewNumber = simp h
 
-told_other : (k j : Kind) → eqb (kind_number j) (kind_number k) ≡ false → (n : ℕ) (got : ReceivedCause) (t : Told) →
+told_other : (k j : Kind) → eqb (kind_number j) (kind_number k) ≡ false → (n : ℕ) (got : Option ReroutingCause) (t : Told) →
     of_kind k (told_sent j n got t) ≡ []
 told_other k j h n got Untold = refl
 told_other k j h n got (Tells say code) = simp h
 
-party_other : (k : Kind) → eqb 4 (kind_number k) ≡ false → eqb 10 (kind_number k) ≡ false → (node : Node) (got : ReceivedCause) (t : Told) →
+party_other : (k : Kind) → eqb 4 (kind_number k) ≡ false → eqb 10 (kind_number k) ≡ false → (node : Node) (got : Option ReroutingCause) (t : Told) →
     of_kind k (told_sent (party_kind node) 0 got t) ≡ []
 party_other k h g Source got t = told_other k CallingRelease h 0 got t
 party_other k h g Destination got t = told_other k CalledRelease g 0 got t
 
 closing_other : (k : Kind) → eqb 7 (kind_number k) ≡ false → eqb 8 (kind_number k) ≡ false → eqb 9 (kind_number k) ≡ false →
-    (s : State) (n : ℕ) (got : ReceivedCause) (x : Closing) → of_kind k (closing_sent s n got x) ≡ []
+    (s : State) (n : ℕ) (got : Option ReroutingCause) (x : Closing) → of_kind k (closing_sent s n got x) ≡ []
 closing_other k f g h s n got NoClosing = refl
 closing_other k f g h s n got (SendsSetup slot) = simp f
 closing_other k f g h s n got (SendsConnect slot) = simp g
@@ -149,19 +149,19 @@ stops_wanted_lem false true false = refl
 stops_wanted_lem expired false true = refl
 stops_wanted_lem expired false false = refl
 
-all_told : (k : Kind) → eqb (kind_number k) (kind_number k) ≡ true → (n : ℕ) (got : ReceivedCause) (t : Told) →
+all_told : (k : Kind) → eqb (kind_number k) (kind_number k) ≡ true → (n : ℕ) (got : Option ReroutingCause) (t : Told) →
     AllAre n (named (of_kind k (told_sent k n got t)))
 all_told k h n got Untold = tt
 all_told k h n got (Tells say code) = simp h (refl, tt)
 
-all_connects : (s : State) (n : ℕ) (got : ReceivedCause) (x : Closing) (rule : Rule) → closing_names x rule ≡ true →
+all_connects : (s : State) (n : ℕ) (got : Option ReroutingCause) (x : Closing) (rule : Rule) → closing_names x rule ≡ true →
     AllAre (rerouting_of s) (named (of_kind ConnectRequest (closing_sent s n got x)))
 all_connects s n got NoClosing rule p = tt
 all_connects s n got (SendsSetup slot) rule p = tt
 all_connects s n got (SendsConnect slot) rule p = (ap (value s n) (slot_same slot OldRerouting p), tt)
 all_connects s n got (Rejects say code) rule p = tt
 
-all_setups : (s : State) (n : ℕ) (got : ReceivedCause) (x : Closing) (rule : Rule) → closing_names x rule ≡ true →
+all_setups : (s : State) (n : ℕ) (got : Option ReroutingCause) (x : Closing) (rule : Rule) → closing_names x rule ≡ true →
     AllAre n (named (of_kind SetupRequest (closing_sent s n got x)))
 all_setups s n got NoClosing rule p = tt
 all_setups s n got (SendsSetup slot) rule p = (ap (value s n) (slot_same slot NewNumber (left (same_slot slot NewNumber) _ p)), tt)
@@ -198,23 +198,23 @@ switch_rises s n OldIncumbent l p = p
 switch_rises s n OldRerouting l p = p
 switch_rises s n NewNumber l p = p
 
-party_rises : (node : Node) (got : ReceivedCause) (t : Told) (l : List Signal) → rising 3 l ≡ true →
+party_rises : (node : Node) (got : Option ReroutingCause) (t : Told) (l : List Signal) → rising 3 l ≡ true →
     rising 2 (told_sent (party_kind node) 0 got t ++ l) ≡ true
 party_rises node got Untold l p = lower 2 3 l (omega arith) p
 party_rises Source got (Tells say code) l p = p
 party_rises Destination got (Tells say code) l p = p
 
-retires_rises : (n : ℕ) (got : ReceivedCause) (t : Told) (l : List Signal) → rising 4 l ≡ true →
+retires_rises : (n : ℕ) (got : Option ReroutingCause) (t : Told) (l : List Signal) → rising 4 l ≡ true →
     rising 3 (told_sent IncumbentRelease n got t ++ l) ≡ true
 retires_rises n got Untold l p = lower 3 4 l (omega arith) p
 retires_rises n got (Tells say code) l p = p
 
-drops_rises : (n : ℕ) (got : ReceivedCause) (t : Told) (l : List Signal) → rising 5 l ≡ true →
+drops_rises : (n : ℕ) (got : Option ReroutingCause) (t : Told) (l : List Signal) → rising 5 l ≡ true →
     rising 4 (told_sent ReroutingRelease n got t ++ l) ≡ true
 drops_rises n got Untold l p = lower 4 5 l (omega arith) p
 drops_rises n got (Tells say code) l p = p
 
-closing_rises : (s : State) (n : ℕ) (got : ReceivedCause) (x : Closing) → rising 5 (closing_sent s n got x) ≡ true
+closing_rises : (s : State) (n : ℕ) (got : Option ReroutingCause) (x : Closing) → rising 5 (closing_sent s n got x) ≡ true
 closing_rises s n got NoClosing = refl
 closing_rises s n got (SendsSetup slot) = refl
 closing_rises s n got (SendsConnect slot) = refl
@@ -244,7 +244,7 @@ four (x ∷ (y ∷ (z ∷ []))) = refl
 four (x ∷ (y ∷ (z ∷ (w ∷ more)))) = refl
 
 -- a cause goes out as received only where it came
-said_so : (got : ReceivedCause) (say : Saying) → CameSo got (said got say)
+said_so : (got : Option ReroutingCause) (say : Saying) → CameSo got (said got say)
 said_so got SaysNothing = tt
 said_so got Says1 = tt
 said_so got Says2 = tt
@@ -252,36 +252,36 @@ said_so got Says4 = tt
 said_so got Says5 = tt
 said_so got Says6 = tt
 said_so got Says8 = tt
-said_so NoCause SaysAsCame = tt
-said_so (WithCause k) SaysAsCame = refl
+said_so None SaysAsCame = tt
+said_so (Some k) SaysAsCame = refl
 
-honest_append : (got : ReceivedCause) (a b : List Signal) → Honest got a → Honest got b → Honest got (a ++ b)
+honest_append : (got : Option ReroutingCause) (a b : List Signal) → Honest got a → Honest got b → Honest got (a ++ b)
 honest_append got [] b p q = q
 honest_append got (s ∷ a) b p q = (p.0, honest_append got a b p.1 q)
 
-honest_placed : (got : ReceivedCause) (l : List Signal) → Honest got l → Honest got (places l)
+honest_placed : (got : Option ReroutingCause) (l : List Signal) → Honest got l → Honest got (places l)
 honest_placed got [] p = (tt, (tt, (tt, (tt, tt))))
 honest_placed got (x ∷ []) p = (p.0, (tt, (tt, (tt, tt))))
 honest_placed got (x ∷ (y ∷ [])) p = (p.0, (p.1.0, (tt, (tt, tt))))
 honest_placed got (x ∷ (y ∷ (z ∷ []))) p = (p.0, (p.1.0, (p.1.1.0, (tt, tt))))
 honest_placed got (x ∷ (y ∷ (z ∷ (w ∷ more)))) p = (p.0, (p.1.0, (p.1.1.0, (p.1.1.1.0, tt))))
 
-timer_honest : (got : ReceivedCause) (t : Timer) → Honest got (timer_sent t)
+timer_honest : (got : Option ReroutingCause) (t : Timer) → Honest got (timer_sent t)
 timer_honest got LeavesTimer = tt
 timer_honest got StartsTimer = (tt, tt)
 timer_honest got StopsTimer = (tt, tt)
 
-switch_honest : (got : ReceivedCause) (s : State) (n : ℕ) (x : Slot) → Honest got (switch_sent s n x)
+switch_honest : (got : Option ReroutingCause) (s : State) (n : ℕ) (x : Slot) → Honest got (switch_sent s n x)
 switch_honest got s n NoSlot = tt
 switch_honest got s n OldIncumbent = (tt, tt)
 switch_honest got s n OldRerouting = (tt, tt)
 switch_honest got s n NewNumber = (tt, tt)
 
-told_honest : (got : ReceivedCause) (k : Kind) (n : ℕ) (t : Told) → Honest got (told_sent k n got t)
+told_honest : (got : Option ReroutingCause) (k : Kind) (n : ℕ) (t : Told) → Honest got (told_sent k n got t)
 told_honest got k n Untold = tt
 told_honest got k n (Tells say code) = (said_so got say, tt)
 
-closing_honest : (got : ReceivedCause) (s : State) (n : ℕ) (x : Closing) → Honest got (closing_sent s n got x)
+closing_honest : (got : Option ReroutingCause) (s : State) (n : ℕ) (x : Closing) → Honest got (closing_sent s n got x)
 closing_honest got s n NoClosing = tt
 closing_honest got s n (SendsSetup slot) = (tt, tt)
 closing_honest got s n (SendsConnect slot) = (tt, tt)
@@ -290,7 +290,7 @@ closing_honest got s n (Rejects say code) = (said_so got say, tt)
 -- the signals of a kind that no other field of a rule sends
 kind_among : (k : Kind) → eqb 1 (kind_number k) ≡ false → eqb 2 (kind_number k) ≡ false → eqb 3 (kind_number k) ≡ false →
     eqb 5 (kind_number k) ≡ false → eqb 6 (kind_number k) ≡ false → eqb 7 (kind_number k) ≡ false → eqb 8 (kind_number k) ≡ false →
-    eqb 9 (kind_number k) ≡ false → (l : List Signal) (s : State) (n : ℕ) (got : ReceivedCause) (rule : Rule) →
+    eqb 9 (kind_number k) ≡ false → (l : List Signal) (s : State) (n : ℕ) (got : Option ReroutingCause) (rule : Rule) →
     of_kind k (timer_sent rule.timer ++ (switch_sent s n rule.switch ++ (l ++ (told_sent IncumbentRelease (incumbent_of s) got rule.retires ++ (told_sent ReroutingRelease (rerouting_of s) got rule.drops ++ closing_sent s n got rule.closing))))) ≡ of_kind k l
 kind_among k a b c d e f g h l s n got rule =
     simp (
@@ -303,7 +303,7 @@ kind_among k a b c d e f g h l s n got rule =
       append_none,
     )
 
-parties_in : (node : Node) (s : State) (n : ℕ) (got : ReceivedCause) (rule : Rule) →
+parties_in : (node : Node) (s : State) (n : ℕ) (got : Option ReroutingCause) (rule : Rule) →
     of_kind (party_kind node) (sent_by node s n got rule) ≡ of_kind (party_kind node) (told_sent (party_kind node) 0 got rule.party)
 parties_in Source s n got rule =
     kind_among CallingRelease refl refl refl refl refl refl refl refl (told_sent CallingRelease 0 got rule.party) s n got rule
@@ -314,7 +314,7 @@ party_kind_lem : (node : Node) → eqb 0 (kind_number (party_kind node)) ≡ fal
 party_kind_lem Source = refl
 party_kind_lem Destination = refl
 
-all_party : (node : Node) (got : ReceivedCause) (t : Told) →
+all_party : (node : Node) (got : Option ReroutingCause) (t : Told) →
     named (of_kind (party_kind node) (told_sent (party_kind node) 0 got t)) ≡ cond (is_told t) (0 ∷ []) []
 all_party Source got Untold = refl
 all_party Source got (Tells say code) = refl
@@ -358,7 +358,7 @@ pad_length (a ∷ (b ∷ (c ∷ (d ∷ [])))) h = refl
 pad_length (a ∷ (b ∷ (c ∷ (d ∷ (e ∷ more))))) h = absurd (omega arith)
 
 -- how many setups a closing sends
-setups_sent : (s : State) (n : ℕ) (got : ReceivedCause) (x : Closing) →
+setups_sent : (s : State) (n : ℕ) (got : Option ReroutingCause) (x : Closing) →
     length (of_kind SetupRequest (closing_sent s n got x)) ≡ once (sends_setup x)
 setups_sent s n got NoClosing = refl
 setups_sent s n got (SendsSetup slot) = refl
@@ -387,7 +387,7 @@ module _ (node : Node) (x : Standing) (e : Event) (rule : Rule) (fit : fits rule
   abbrev n : ℕ
   n = x.last + 1
 
-  abbrev got : ReceivedCause
+  abbrev got : Option ReroutingCause
   got = received_in e
 
   abbrev all : List Signal

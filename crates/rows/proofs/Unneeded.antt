@@ -5,11 +5,11 @@ use mathlib.Core.Bool.{Bool, ◌&&◌, ◌||◌, cond, false, false≢true, true
 use mathlib.Core.List.{◌++◌}
 use mathlib.Core.Path.{◌∙◌, ◌≡◌, ap, refl, sym}
 use lib.Dec.{ltb}
+use Rattle.std.specs.Prelude.{Option, None, Some}
 use Rattle.signal.specs.Numbers.{fresh_after}
 use Rattle.signal.specs.Signals.{places}
-use Rattle.signal.specs.declared.Fresh.TheVariants.{Next, Spent}
+use Rattle.signal.specs.declared.ReroutingCause.{ReroutingCause}
 use Rattle.signal.specs.declared.Kind.TheVariants.{IncumbentRelease, ReroutingRelease}
-use Rattle.signal.specs.declared.ReceivedCause.{ReceivedCause}
 use Rattle.rows.proofs.Every.{Each, each, left, right}
 use Rattle.rows.proofs.Same.{slot_same}
 use Rattle.rows.proofs.Sent.{or_right}
@@ -52,7 +52,7 @@ module _ (s : State) (n m : ℕ) where
   switch_either OldRerouting p = refl
   switch_either NewNumber p = absurd (true≢false p)
 
-  closing_either : (got : ReceivedCause) (x : Closing) (rule : Rule) → gives_new rule ≡ false → closing_names x rule ≡ true →
+  closing_either : (got : Option ReroutingCause) (x : Closing) (rule : Rule) → gives_new rule ≡ false → closing_names x rule ≡ true →
       closing_sent s n got x ≡ closing_sent s m got x
   closing_either got NoClosing rule p q = refl
   closing_either got (SendsSetup slot) rule p q =
@@ -74,7 +74,7 @@ old_switch rule p g = by (same_slot rule.switch NoSlot) refl
         rw (slot_same rule.switch rule.incumbent (left (same_slot rule.switch rule.incumbent) _ t))
         (old_incumbent rule.phase rule.incumbent rule.rerouting (right (same_slot rule.switch rule.incumbent) _ t) g)
 
-pub either : (node : Node) (s : State) (n m : ℕ) (got : ReceivedCause) (rule : Rule) → gives_new rule ≡ false → switch_names rule ≡ true →
+pub either : (node : Node) (s : State) (n m : ℕ) (got : Option ReroutingCause) (rule : Rule) → gives_new rule ≡ false → switch_names rule ≡ true →
     closing_names rule.closing rule ≡ true → effect node s n got rule ≡ effect node s m got rule
 either node s n m got rule g p q =
     λ k. record {
@@ -94,12 +94,12 @@ either node s n m got rule g p q =
 pub room_is : (last : ℕ) → is_next (fresh_after last) ≡ has_room last
 room_is last = by (ltb last 65535)
   where
-    by : (b : Bool) → is_next (cond b (Next (last + 1)) Spent) ≡ b
+    by : (b : Bool) → is_next (cond b (Some (last + 1)) None) ≡ b
     by true = refl
     by false = refl
 
 -- the next number as the code has it, and as a lawful rule wants it
-pub fresh_either : (node : Node) (s : State) (last : ℕ) (got : ReceivedCause) (c : Case) (rule : Rule) → c.room ≡ has_room last →
+pub fresh_either : (node : Node) (s : State) (last : ℕ) (got : Option ReroutingCause) (c : Case) (rule : Rule) → c.room ≡ has_room last →
     is_lawful c rule ≡ true → effect node s (next_number (fresh_after last)) got rule ≡ effect node s (last + 1) got rule
 fresh_either node s last got c rule room p =
     let t : Each (laws c rule) = each (laws c rule) p in

@@ -8,13 +8,14 @@ use mathlib.Core.Path.{◌∙◌, ◌≡◌, ap, refl, sym}
 use lib.Dec.{eqb, leb}
 use lib.ListN.{length}
 use borrow.Author.Tests.{eqb-true, leb-true}
+use Rattle.std.specs.Prelude.{Option}
 use Rattle.signal.specs.Counting.{is_call_rejected, kind_number, of_kind, with_code21}
 use Rattle.signal.specs.Numbers.{answer_number, is_late}
 use Rattle.signal.specs.Signals.{places, release_with}
 use Rattle.signal.specs.declared.CauseCode.TheVariants.{CallRejected, Section66}
 use Rattle.signal.specs.declared.Kind.{Kind}
 use Rattle.signal.specs.declared.Kind.TheVariants.{IncumbentRelease, NoSignal, Rejection, ReroutingRelease}
-use Rattle.signal.specs.declared.ReceivedCause.{ReceivedCause}
+use Rattle.signal.specs.declared.ReroutingCause.{ReroutingCause}
 use Rattle.signal.specs.declared.SentCause.TheVariants.{Absent, Numbered}
 use Rattle.signal.specs.declared.Signal.{Signal}
 use Rattle.events.specs.Events.{number_brought, received_in}
@@ -109,7 +110,7 @@ none_of [] = refl
 none_of (say ∷ more) = refl
 
 -- ---- a rejection
-numbered : (got : ReceivedCause) (say : Saying) → says_number say ≡ true → said got say ≡ Numbered (cause_said say)
+numbered : (got : Option ReroutingCause) (say : Saying) → says_number say ≡ true → said got say ≡ Numbered (cause_said say)
 numbered got SaysNothing p = absurd (false≢true p)
 numbered got Says1 p = refl
 numbered got Says2 p = refl
@@ -123,7 +124,7 @@ empty_is : (l : List Saying) → is_empty l ≡ true → l ≡ []
 empty_is [] p = refl
 empty_is (say ∷ more) p = absurd (false≢true p)
 
-turned_away_lem : (s : State) (n : ℕ) (got : ReceivedCause) (l : List Saying) (x : Closing) → rejects_with l x ≡ true →
+turned_away_lem : (s : State) (n : ℕ) (got : Option ReroutingCause) (l : List Saying) (x : Closing) → rejects_with l x ≡ true →
     of_kind Rejection (closing_sent s n got x) ≡ rejections (causes_of l)
 turned_away_lem s n got [] NoClosing p = refl
 turned_away_lem s n got [] (SendsSetup slot) p = refl
@@ -174,7 +175,7 @@ pad_without (a ∷ (b ∷ [])) = refl
 pad_without (a ∷ (b ∷ (c ∷ []))) = refl
 pad_without (a ∷ (b ∷ (c ∷ (d ∷ more)))) = refl
 
-told_with : (k : Kind) (n : ℕ) (got : ReceivedCause) (wanted : Bool) (t : Told) → bears21 wanted t ≡ true →
+told_with : (k : Kind) (n : ℕ) (got : Option ReroutingCause) (wanted : Bool) (t : Told) → bears21 wanted t ≡ true →
     with_code21 (told_sent k n got t) ≡ cond wanted (release_with k n Absent CallRejected ∷ []) []
 told_with k n got true Untold p = absurd (false≢true p)
 told_with k n got false Untold p = refl
@@ -183,7 +184,7 @@ told_with k n got true (Tells say CallRejected) p = ap (λ y. release_with k n (
 told_with k n got false (Tells say Section66) p = refl
 told_with k n got false (Tells say CallRejected) p = absurd (false≢true p)
 
-closing_without : (s : State) (n : ℕ) (got : ReceivedCause) (l : List Saying) (x : Closing) → rejects_with l x ≡ true →
+closing_without : (s : State) (n : ℕ) (got : Option ReroutingCause) (l : List Saying) (x : Closing) → rejects_with l x ≡ true →
     with_code21 (closing_sent s n got x) ≡ []
 closing_without s n got l NoClosing p = refl
 closing_without s n got l (SendsSetup slot) p = refl

@@ -12,6 +12,7 @@ use contract.Monad.{Fun, fact, fact_mono}
 use types.Logic.{Logic}
 use prog.Memory.{Memory}
 use prog.Routine.{Routine}
+use Rattle.std.specs.Prelude.{Option, Some}
 use Rattle.rows.specs.Cases.{class_number}
 use Rattle.events.specs.declared.Node.TheVariants.{Destination, Source}
 use Rattle.events.specs.declared.Node.{Node}
@@ -28,8 +29,6 @@ use Rattle.signal.specs.declared.Answer.TheVariants.{NoMeaning, NotHeld}
 use Rattle.signal.specs.declared.Answer.{Answer}
 use Rattle.signal.specs.declared.Kind.TheVariants.{ReroutingRelease}
 use Rattle.signal.specs.declared.Kind.{Kind}
-use Rattle.signal.specs.declared.ReceivedCause.TheVariants.{WithCause}
-use Rattle.signal.specs.declared.ReceivedCause.{ReceivedCause}
 use Rattle.signal.specs.declared.ReroutingCause.{ReroutingCause}
 use Rattle.signal.specs.declared.SentCause.TheVariants.{Numbered}
 use Rattle.signal.specs.declared.SentCause.{SentCause}
@@ -83,15 +82,15 @@ module _ {M : Type 1} {𝓤 : Ura M} (𝓛 : Logic 𝓤) (memory : Memory → SP
   rerouting_is_the_incumbent = fact_mono 𝓤 _ _ (λ h. omega arith)
 
   -- class_of: of a cause, its class (01, "Release from the called side")
-  abbrev class_of_shuts_out : ReceivedCause → Class → Type 1
+  abbrev class_of_shuts_out : Option ReroutingCause → Class → Type 1
   class_of_shuts_out came r = NeverHolds ((class_of.clauses 𝓛 memory run tt (came, tt)).ensures tt r (came, tt))
 
   -- #4 is rerouting operation complete
-  pub cause_4_is_outside : (r : Class) → class_number r ≡ 1 → class_of_shuts_out (WithCause (cause 4)) r
+  pub cause_4_is_outside : (r : Class) → class_number r ≡ 1 → class_of_shuts_out (Some (cause 4)) r
   cause_4_is_outside r w = fact_mono 𝓤 _ _ (λ h. let z : ◌≡◌ {A = ℕ} _ 1 = ap (λ (r : Class). class_number r) h ∙ w in omega arith)
 
   -- #1 alone is release received from outside
-  pub cause_2_is_outside : (r : Class) → class_number r ≡ 1 → class_of_shuts_out (WithCause (cause 2)) r
+  pub cause_2_is_outside : (r : Class) → class_number r ≡ 1 → class_of_shuts_out (Some (cause 2)) r
   cause_2_is_outside r w = fact_mono 𝓤 _ _ (λ h. let z : ◌≡◌ {A = ℕ} _ 1 = ap (λ (r : Class). class_number r) h ∙ w in omega arith)
 
   -- refused: of an answer and the state, what comes of a refusal

@@ -1,9 +1,8 @@
 -- The case of a call and an event: all that a row may read, and no number. It is finite: 684 cases a phase, 5,472 in all. Assumes nothing.
-use Rattle.std.specs.Prelude.{ℕ, Bool, ◌&&◌, cond, false, true, eqb, ltb}
+use Rattle.std.specs.Prelude.{ℕ, Bool, ◌&&◌, cond, false, true, eqb, ltb, Option, None, Some}
 use Rattle.signal.specs.Numbers.{is_late}
 use Rattle.signal.specs.declared.Crankback.{Crankback}
-use Rattle.signal.specs.declared.ReceivedCause.{ReceivedCause}
-use Rattle.signal.specs.declared.ReceivedCause.TheVariants.{NoCause, WithCause}
+use Rattle.signal.specs.declared.ReroutingCause.{ReroutingCause}
 use Rattle.signal.specs.declared.Soft.{Soft}
 use Rattle.signal.specs.declared.Switchover.{Switchover}
 use Rattle.events.specs.declared.Event.{Event}
@@ -64,9 +63,9 @@ abbrev pub role_of : State → ℕ → Role
 role_of s c = cond (is_incumbent s c) NamesIncumbent (cond (is_rerouting s c) NamesRerouting NamesOther)
 
 -- no row reads more of a cause than this (01, "Release from the called side"; 6.2.4)
-abbrev pub class_of : ReceivedCause → Class
-class_of NoCause = CameNone
-class_of (WithCause k) = cond (eqb k.number 1) CameOutside (cond (eqb k.number 4) CameComplete CameOther)
+abbrev pub class_of : Option ReroutingCause → Class
+class_of None = CameNone
+class_of (Some k) = cond (eqb k.number 1) CameOutside (cond (eqb k.number 4) CameComplete CameOther)
 
 -- 01, "The trace": 1 is clearing; 5.2: 0 is immediate
 abbrev pub asking_of : Switchover → Asking

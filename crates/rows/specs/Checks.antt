@@ -1,11 +1,9 @@
 -- The checks on one event at either end, in the words of 01 ("Numbers of refusal", "Setup", "Signals"): of a call and an event, with no
 -- word of cases or rules. What the documents ask of one end alone is a record, `Demands`. Assumes nothing.
-use Rattle.std.specs.Prelude.{ℕ, Bool, ◌&&◌, ◌||◌, cond, false, not, true, List, [], ◌++◌, ◌∷◌, ◌≡◌, eqb}
+use Rattle.std.specs.Prelude.{ℕ, Bool, ◌&&◌, ◌||◌, cond, false, not, true, List, [], ◌++◌, ◌∷◌, ◌≡◌, eqb, Option, None, Some}
 use Rattle.signal.specs.Signals.{none, rejection, release_with, timer_start, timer_stop}
 use Rattle.signal.specs.declared.CauseCode.TheVariants.{CallRejected}
 use Rattle.signal.specs.declared.Kind.TheVariants.{IncumbentRelease, ReroutingRelease}
-use Rattle.signal.specs.declared.ReceivedCause.{ReceivedCause}
-use Rattle.signal.specs.declared.ReceivedCause.TheVariants.{NoCause, WithCause}
 use Rattle.signal.specs.declared.ReroutingCause.{ReroutingCause}
 use Rattle.signal.specs.declared.SentCause.TheVariants.{Absent}
 use Rattle.signal.specs.declared.Signal.{Signal}
@@ -64,9 +62,9 @@ names_not_held s Ready = false
 names_not_held s Expiry = false
 
 -- no Rerouting cause came
-abbrev pub has_no_cause : ReceivedCause → Bool
-has_no_cause NoCause = true
-has_no_cause (WithCause k) = false
+abbrev pub has_no_cause : Option ReroutingCause → Bool
+has_no_cause None = true
+has_no_cause (Some k) = false
 
 abbrev pub is_none : List ReroutingCause → Bool
 is_none [] = true

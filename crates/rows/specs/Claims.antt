@@ -1,12 +1,10 @@
 -- The claims on cases and rules, in natural words: how a case is read off a call and an event, and what a rule says when it is carried
 -- out. The rows and their laws use the definitions of Cases, States and Effects; these say what those mean. Proofs: proofs/Claims.antt.
 -- Assumes nothing.
-use Rattle.std.specs.Prelude.{◌<◌, ℕ, Bool, false, true, ◌↔◌, ◌≡◌}
+use Rattle.std.specs.Prelude.{◌<◌, ℕ, Bool, false, true, ◌↔◌, ◌≡◌, Option, None, Some}
 use Rattle.signal.specs.Causes.{cause}
 use Rattle.signal.specs.Numbers.{is_late}
 use Rattle.signal.specs.declared.Crankback.{Crankback}
-use Rattle.signal.specs.declared.ReceivedCause.{ReceivedCause}
-use Rattle.signal.specs.declared.ReceivedCause.TheVariants.{NoCause, WithCause}
 use Rattle.signal.specs.declared.ReroutingCause.{ReroutingCause}
 use Rattle.signal.specs.declared.SentCause.TheVariants.{Absent, AsReceived, Numbered}
 use Rattle.signal.specs.declared.Switchover.{Switchover}
@@ -25,9 +23,9 @@ use Rattle.rows.specs.declared.State.{State}
 -- 01, "Release from the called side": a row asks whether a cause came, whether it is #1 and whether it is #4; every other number is
 -- another cause.
 pub record ClassExactly : Type 0 where
-  pub none : (got : ReceivedCause) → (class_of got ≡ CameNone) ↔ (got ≡ NoCause)
-  pub outside : (k : ReroutingCause) → (class_of (WithCause k) ≡ CameOutside) ↔ (k.number ≡ 1)
-  pub complete : (k : ReroutingCause) → (class_of (WithCause k) ≡ CameComplete) ↔ (k.number ≡ 4)
+  pub none : (got : Option ReroutingCause) → (class_of got ≡ CameNone) ↔ (got ≡ None)
+  pub outside : (k : ReroutingCause) → (class_of (Some k) ≡ CameOutside) ↔ (k.number ≡ 1)
+  pub complete : (k : ReroutingCause) → (class_of (Some k) ≡ CameComplete) ↔ (k.number ≡ 4)
 
 -- 01, "The trace", and 5.2: code 1 asks to switch when the call is cleared, code 0 at once; every other code is another switchover.
 pub record AskingExactly : Type 0 where
@@ -56,14 +54,14 @@ pub record CaseHandsOn (x : Standing) : Type 0 where
   pub connect : (c : ℕ) (agreed : Bool) → (case_of x (Connect c agreed)).happening ≡ Connected (role_of x.state c) agreed
   pub setup : (code : Switchover) (number : ℕ) →
       (case_of x (Setup code number)).happening ≡ SetUp (asking_of code) (is_late number x.remote)
-  pub from_party : (got : ReceivedCause) → (case_of x (FromParty got)).happening ≡ PartyReleased (class_of got)
-  pub from_domain : (c : ℕ) (got : ReceivedCause) (tried : Crankback) →
+  pub from_party : (got : Option ReroutingCause) → (case_of x (FromParty got)).happening ≡ PartyReleased (class_of got)
+  pub from_domain : (c : ℕ) (got : Option ReroutingCause) (tried : Crankback) →
       (case_of x (FromDomain c got tried)).happening ≡ DomainReleased (role_of x.state c) (class_of got) tried
   pub ready : (case_of x Ready).happening ≡ SaidReady
   pub expiry : (case_of x Expiry).happening ≡ Expired
 
 -- 01, "Signals": a cause is absent, a number, or the one that came, as received; where none came there is none to send on.
-pub record SaidExactly (got : ReceivedCause) : Type 0 where
+pub record SaidExactly (got : Option ReroutingCause) : Type 0 where
   pub nothing : said got SaysNothing ≡ Absent
   pub number1 : said got Says1 ≡ Numbered (cause 1)
   pub number2 : said got Says2 ≡ Numbered (cause 2)
@@ -71,8 +69,8 @@ pub record SaidExactly (got : ReceivedCause) : Type 0 where
   pub number5 : said got Says5 ≡ Numbered (cause 5)
   pub number6 : said got Says6 ≡ Numbered (cause 6)
   pub number8 : said got Says8 ≡ Numbered (cause 8)
-  pub as_came : (k : ReroutingCause) → (said got SaysAsCame ≡ AsReceived k) ↔ (got ≡ WithCause k)
-  pub came_not : (said got SaysAsCame ≡ Absent) ↔ (got ≡ NoCause)
+  pub as_came : (k : ReroutingCause) → (said got SaysAsCame ≡ AsReceived k) ↔ (got ≡ Some k)
+  pub came_not : (said got SaysAsCame ≡ Absent) ↔ (got ≡ None)
 
 -- 01, "The table and its records": a phase has the number of its states, 0 to 7, and a rule leads to a state of the phase that it names.
 pub record PhaseExactly : Type 0 where

@@ -1,16 +1,13 @@
 -- What a rule does to a call: one definition for either end, carried out on its state, the next number and the cause that came.
 -- Assumes nothing.
-use Rattle.std.specs.Prelude.{ℕ, Bool, ◌&&◌, ◌||◌, false, true, List, [], ◌++◌, ◌∷◌}
+use Rattle.std.specs.Prelude.{ℕ, Bool, ◌&&◌, ◌||◌, false, true, List, [], ◌++◌, ◌∷◌, Option, None, Some}
 use Rattle.signal.specs.Causes.{as_received, cause}
 use Rattle.signal.specs.Signals.{connect_on, none, places, rejection, release_of, release_with}
 use Rattle.signal.specs.Signals.{setup_on, switch_to, timer_start, timer_stop}
 use Rattle.signal.specs.declared.Answer.{Answer}
 use Rattle.signal.specs.declared.Answer.TheVariants.{Done}
-use Rattle.signal.specs.declared.Fresh.{Fresh}
-use Rattle.signal.specs.declared.Fresh.TheVariants.{Next, Spent}
 use Rattle.signal.specs.declared.Kind.{Kind}
 use Rattle.signal.specs.declared.Kind.TheVariants.{CalledRelease, CallingRelease, IncumbentRelease, Rejection, ReroutingRelease}
-use Rattle.signal.specs.declared.ReceivedCause.{ReceivedCause}
 use Rattle.signal.specs.declared.ReroutingCause.{ReroutingCause}
 use Rattle.signal.specs.declared.SentCause.{SentCause}
 use Rattle.signal.specs.declared.SentCause.TheVariants.{Absent, Numbered}
@@ -38,7 +35,7 @@ is_new OldIncumbent = false
 is_new OldRerouting = false
 is_new NewNumber = true
 
-abbrev pub said : ReceivedCause → Saying → SentCause
+abbrev pub said : Option ReroutingCause → Saying → SentCause
 said got SaysNothing = Absent
 said got Says1 = Numbered (cause 1)
 said got Says2 = Numbered (cause 2)
@@ -74,11 +71,11 @@ switch_sent s n OldIncumbent = switch_to (incumbent_of s) ∷ []
 switch_sent s n OldRerouting = switch_to (rerouting_of s) ∷ []
 switch_sent s n NewNumber = switch_to n ∷ []
 
-abbrev pub told_sent : Kind → ℕ → ReceivedCause → Told → List Signal
+abbrev pub told_sent : Kind → ℕ → Option ReroutingCause → Told → List Signal
 told_sent kind connection got Untold = []
 told_sent kind connection got (Tells say code) = release_with kind connection (said got say) code ∷ []
 
-abbrev pub closing_sent : State → ℕ → ReceivedCause → Closing → List Signal
+abbrev pub closing_sent : State → ℕ → Option ReroutingCause → Closing → List Signal
 closing_sent s n got NoClosing = []
 closing_sent s n got (SendsSetup slot) = setup_on (value s n slot) ∷ []
 closing_sent s n got (SendsConnect slot) = connect_on (value s n slot) ∷ []
@@ -90,7 +87,7 @@ party_kind Source = CallingRelease
 party_kind Destination = CalledRelease
 
 -- the signals of a rule, in the printed order
-abbrev pub sent_by : Node → State → ℕ → ReceivedCause → Rule → List Signal
+abbrev pub sent_by : Node → State → ℕ → Option ReroutingCause → Rule → List Signal
 sent_by node s n got rule =
     timer_sent rule.timer
     ++ (switch_sent s n rule.switch
@@ -109,7 +106,7 @@ abbrev pub gives_new : Rule → Bool
 gives_new rule = gives_in rule.phase rule.incumbent rule.rerouting
 
 -- a rule, carried out
-abbrev pub effect : Node → State → ℕ → ReceivedCause → Rule → Effect
+abbrev pub effect : Node → State → ℕ → Option ReroutingCause → Rule → Effect
 effect node s n got rule =
     record {
       answer = rule.answer;
@@ -120,16 +117,16 @@ effect node s n got rule =
     }
 
 -- the next number and whether there is one, as the code has them
-abbrev pub next_number : Fresh → ℕ
-next_number (Next n) = n
-next_number Spent = 0
+abbrev pub next_number : Option ℕ → ℕ
+next_number (Some n) = n
+next_number None = 0
 
-abbrev pub is_next : Fresh → Bool
-is_next (Next n) = true
-is_next Spent = false
+abbrev pub is_next : Option ℕ → Bool
+is_next (Some n) = true
+is_next None = false
 
--- the same with the next number as the code has it; `Spent` where the event gives none
-abbrev pub carried_at : Node → State → Fresh → ReceivedCause → Rule → Effect
+-- the same with the next number as the code has it; `None` where the event gives none
+abbrev pub carried_at : Node → State → Option ℕ → Option ReroutingCause → Rule → Effect
 carried_at node s next got rule = effect node s (next_number next) got rule
 
 -- the effects that the code builds

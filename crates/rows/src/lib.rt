@@ -12,7 +12,7 @@ ghost use Rattle.rows.specs.Effects.{party_kind, refused_in, done_in, given_in};
 ghost use Rattle.rows.specs.Effects.{moved_quietly, rejection_left, ended_telling, stopped_telling};
 
 use events::Node;
-use signal::{Answer, CauseCode, Kind, ReceivedCause, ReroutingCause, SentCause, Signal};
+use signal::{Answer, CauseCode, Kind, ReroutingCause, SentCause, Signal};
 
 // The states of 6.2.3 and 6.3.3, each with its own connection numbers: the incumbent first, then the rerouting one. Two have a name for
 // each end: HardWaiting is Hard Reroute Triggered at the source and Hard Reroute Indicated at the destination, HardUnderway is Hard Reroute
@@ -30,6 +30,7 @@ pub enum State {
 }
 
 impl State {
+    // A match: a cast gives the numbers only of an enum without values.
     pub fn number(self) -> u8
         ensures { result ≡ state_number self }
     {
@@ -88,20 +89,14 @@ pub enum Class {
 }
 
 // What a row reads of a cause.
-pub fn class_of(cause: ReceivedCause) -> Class
+pub fn class_of(cause: Option<ReroutingCause>) -> Class
     ensures { class_of cause ≡ result }
 {
     match cause {
-        ReceivedCause::NoCause => Class::CameNone,
-        ReceivedCause::WithCause(received) => {
-            if received.number == 1 {
-                return Class::CameOutside;
-            }
-            if received.number == 4 {
-                return Class::CameComplete;
-            }
-            Class::CameOther
-        }
+        None => Class::CameNone,
+        Some(ReroutingCause { number: 1 }) => Class::CameOutside,
+        Some(ReroutingCause { number: 4 }) => Class::CameComplete,
+        Some(_) => Class::CameOther,
     }
 }
 

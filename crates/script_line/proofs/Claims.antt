@@ -7,18 +7,17 @@ use mathlib.Core.List.{List, [], ◌∷◌, ◌++◌, append-nil, append_assoc}
 use mathlib.Core.Logic.{inl}
 use lib.Dec.{eqb}
 use borrow.Author.Tests.{eqb-true}
+use Rattle.std.specs.Prelude.{Option, None, Some}
 use Rattle.lines.specs.Lines.{ascii}
 use Rattle.line_reader.specs.Words.{first_word, after_word}
 use Rattle.line_reader.specs.Numbers.{number_up_to}
 use Rattle.line_reader.proofs.Claims.{comment_is_no_word, blank_behind_is_no_word}
 use Rattle.signal.specs.declared.Crankback.{Crankback}
 use Rattle.signal.specs.declared.Crankback.TheVariants.{NoCrankback, AlternateFound, NoAlternate}
-use Rattle.signal.specs.declared.ReceivedCause.{ReceivedCause}
-use Rattle.signal.specs.declared.ReceivedCause.TheVariants.{NoCause, WithCause}
+use Rattle.signal.specs.declared.ReroutingCause.{ReroutingCause}
+use Rattle.signal.specs.declared.Services.{Services}
 use Rattle.signal.specs.declared.Soft.{Soft}
 use Rattle.signal.specs.declared.Soft.TheVariants.{NoSoft, Asymmetric, Symmetric}
-use Rattle.signal.specs.declared.Wanted.{Wanted}
-use Rattle.signal.specs.declared.Wanted.TheVariants.{Unnamed, Named}
 use Rattle.events.specs.declared.Event.{Event}
 use Rattle.events.specs.declared.Event.TheVariants.{Trigger, PathFound, NoPath, Connect, Setup, FromParty, FromDomain, Ready, Expiry}
 use Rattle.events.specs.declared.Act.{Act}
@@ -50,9 +49,9 @@ crankback_parted NoCrankback = tt
 crankback_parted AlternateFound = refl
 crankback_parted NoAlternate = refl
 
-cause_parted : (cause : ReceivedCause) (back : Crankback) → Parted (received_cause_text cause ++ crankback_text back)
-cause_parted NoCause back = crankback_parted back
-cause_parted (WithCause c) back = refl
+cause_parted : (cause : Option ReroutingCause) (back : Crankback) → Parted (received_cause_text cause ++ crankback_text back)
+cause_parted None back = crankback_parted back
+cause_parted (Some c) back = refl
 
 code_parted : (n : ℕ) (tail : List ℕ) → Parted (switchover_text n ++ tail)
 code_parted n tail = by_tests (eqb n 0) (eqb n 1)
@@ -68,8 +67,8 @@ event_parted PathFound = tt
 event_parted NoPath = tt
 event_parted (Connect c policy) = refl
 event_parted (Setup s n) = code_parted s.code (then_number n)
-event_parted (FromParty NoCause) = tt
-event_parted (FromParty (WithCause c)) = refl
+event_parted (FromParty None) = tt
+event_parted (FromParty (Some c)) = refl
 event_parted (FromDomain c cause back) = refl
 event_parted Ready = tt
 event_parted Expiry = tt
@@ -79,8 +78,8 @@ hard_parted true tail = refl
 hard_parted false tail = refl
 
 parted : (act : Act) → Parted (brought_text act)
-parted (Opens Unnamed) = tt
-parted (Opens (Named s)) = hard_parted s.hard (soft_text s.soft)
+parted (Opens None) = tt
+parted (Opens (Some s)) = hard_parted s.hard (soft_text s.soft)
 parted (Meets e) = event_parted e
 
 -- a number that fits is read, and what is to come follows it
@@ -94,7 +93,7 @@ at_end : (n : ℕ) → then_number n ≡ then_number n ++ []
 at_end n = sym (append-nil (then_number n))
 
 opens : (key : ℕ) (hard : Bool) (soft : Soft) →
-    read_open key (hard_text hard ++ soft_text soft) ≡ Told key (Opens (Named (record { hard = hard; soft = soft })))
+    read_open key (hard_text hard ++ soft_text soft) ≡ Told key (Opens (Some (record { hard = hard; soft = soft })))
 unfolding read_open read_soft read_end first_word after_word
 opens key true NoSoft = refl
 opens key true Asymmetric = refl
@@ -103,10 +102,10 @@ opens key false NoSoft = refl
 opens key false Asymmetric = refl
 opens key false Symmetric = refl
 
-opens_wanted : (key : ℕ) (w : Wanted) → read_open key (wanted_text w) ≡ Told key (Opens w)
+opens_wanted : (key : ℕ) (w : Option Services) → read_open key (wanted_text w) ≡ Told key (Opens w)
 unfolding read_open first_word
-opens_wanted key Unnamed = refl
-opens_wanted key (Named s) = opens key s.hard s.soft
+opens_wanted key None = refl
+opens_wanted key (Some s) = opens key s.hard s.soft
 
 policy_parted : (policy : Bool) → Parted (policy_text policy)
 policy_parted true = refl
@@ -162,15 +161,15 @@ setups key code n c h = by_tests (eqb code 0) (eqb code 1) refl refl
         )
         (incarnation_told key code n h)
 
-calling_told : (key : ℕ) (cause : ReceivedCause) → CauseFits cause →
+calling_told : (key : ℕ) (cause : Option ReroutingCause) → CauseFits cause →
     read_calling key (received_cause_text cause) ≡ Told key (Meets (FromParty cause))
 unfolding read_calling read_calling_cause read_end first_word after_word
-calling_told key NoCause h = refl
-calling_told key (WithCause c) h =
+calling_told key None h = refl
+calling_told key (Some c) h =
     ap (read_calling_cause key) (at_end c.number)
-    ∙ reads 255 c.number ACause [] (λ n rest. read_end key (Meets (FromParty (WithCause (record { number = n })))) rest) (omega arith) tt
+    ∙ reads 255 c.number ACause [] (λ n rest. read_end key (Meets (FromParty (Some (record { number = n })))) rest) (omega arith) tt
 
-crankback_told : (key c : ℕ) (cause : ReceivedCause) (what : What) (back : Crankback) →
+crankback_told : (key c : ℕ) (cause : Option ReroutingCause) (what : What) (back : Crankback) →
     read_crankback key c cause what (crankback_text back) ≡ Told key (Meets (FromDomain c cause back))
 unfolding read_crankback read_end first_word after_word
 crankback_told key c cause what NoCrankback = refl
@@ -178,22 +177,22 @@ crankback_told key c cause what AlternateFound = refl
 crankback_told key c cause what NoAlternate = refl
 
 no_cause_told : (key c : ℕ) (back : Crankback) →
-    read_release key c (crankback_text back) ≡ read_crankback key c NoCause CauseCrankbackOrEnd (crankback_text back)
+    read_release key c (crankback_text back) ≡ read_crankback key c None CauseCrankbackOrEnd (crankback_text back)
 unfolding read_release first_word
 no_cause_told key c NoCrankback = refl
 no_cause_told key c AlternateFound = refl
 no_cause_told key c NoAlternate = refl
 
-release_told : (key c : ℕ) (cause : ReceivedCause) (back : Crankback) → CauseFits cause →
+release_told : (key c : ℕ) (cause : Option ReroutingCause) (back : Crankback) → CauseFits cause →
     read_release key c (received_cause_text cause ++ crankback_text back) ≡ Told key (Meets (FromDomain c cause back))
 unfolding read_release read_called_cause first_word after_word
-release_told key c NoCause back h = no_cause_told key c back ∙ crankback_told key c NoCause CauseCrankbackOrEnd back
-release_told key c (WithCause cause) back h =
+release_told key c None back h = no_cause_told key c back ∙ crankback_told key c None CauseCrankbackOrEnd back
+release_told key c (Some cause) back h =
     reads 255 cause.number ACause (crankback_text back)
-    (λ n rest. read_crankback key c (WithCause (record { number = n })) CrankbackOrEnd rest) (omega arith) (crankback_parted back)
-    ∙ crankback_told key c (WithCause cause) CrankbackOrEnd back
+    (λ n rest. read_crankback key c (Some (record { number = n })) CrankbackOrEnd rest) (omega arith) (crankback_parted back)
+    ∙ crankback_told key c (Some cause) CrankbackOrEnd back
 
-called_told : (key c : ℕ) (cause : ReceivedCause) (back : Crankback) → c < 65536 → CauseFits cause →
+called_told : (key c : ℕ) (cause : Option ReroutingCause) (back : Crankback) → c < 65536 → CauseFits cause →
     read_called key (then_number c ++ (received_cause_text cause ++ crankback_text back)) ≡ Told key (Meets (FromDomain c cause back))
 unfolding read_called
 called_told key c cause back h f =
@@ -212,13 +211,13 @@ unfolding read_end first_word
 nothing_told key act = refl
 
 -- a release, by the name that its side has at an end
-party_told : (node : Node) (key : ℕ) (cause : ReceivedCause) → key < 4294967296 → CauseFits cause →
+party_told : (node : Node) (key : ℕ) (cause : Option ReroutingCause) → key < 4294967296 → CauseFits cause →
     parsed_of node (event_text node key (Meets (FromParty cause))) ≡ Told key (Meets (FromParty cause))
 unfolding parsed_of plain_name full_name name_of first_word after_word
 party_told Source key cause h f = keyed_told CallingName key _ h (event_parted (FromParty cause)) ∙ calling_told key cause f
 party_told Destination key cause h f = keyed_told CallingName key _ h (event_parted (FromParty cause)) ∙ calling_told key cause f
 
-domain_told : (node : Node) (key c : ℕ) (cause : ReceivedCause) (back : Crankback) → key < 4294967296 → c < 65536 → CauseFits cause →
+domain_told : (node : Node) (key c : ℕ) (cause : Option ReroutingCause) (back : Crankback) → key < 4294967296 → c < 65536 → CauseFits cause →
     parsed_of node (event_text node key (Meets (FromDomain c cause back))) ≡ Told key (Meets (FromDomain c cause back))
 unfolding parsed_of plain_name full_name name_of first_word after_word
 domain_told Source key c cause back h l f =
@@ -240,7 +239,7 @@ event_told node key (FromDomain c cause back) h = domain_told node key c cause b
 event_told node key Ready h = keyed_told ReadyName key [] h.0 tt ∙ nothing_told key (Meets Ready)
 event_told node key Expiry h = keyed_told ExpiryName key [] h.0 tt ∙ nothing_told key (Meets Expiry)
 
-opening_told : (node : Node) (key : ℕ) (w : Wanted) → key < 4294967296 → parsed_of node (event_text node key (Opens w)) ≡ Told key (Opens w)
+opening_told : (node : Node) (key : ℕ) (w : Option Services) → key < 4294967296 → parsed_of node (event_text node key (Opens w)) ≡ Told key (Opens w)
 unfolding parsed_of plain_name full_name name_of first_word after_word
 opening_told node key w h = keyed_told OpenName key (wanted_text w) h (parted (Opens w)) ∙ opens_wanted key w
 

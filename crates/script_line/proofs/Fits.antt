@@ -4,13 +4,13 @@ use native.Mathlib.Omega.{arith}
 use mathlib.Core.Path.{◌≡◌, refl}
 use mathlib.Core.Bool.{Bool, true, false, cond}
 use mathlib.Core.List.{List}
+use Rattle.std.specs.Prelude.{Option, None, Some}
 use Rattle.line_reader.specs.Words.{first_word, after_word}
 use Rattle.line_reader.specs.Numbers.{number_up_to}
 use Rattle.line_reader.specs.declared.Reading.{Reading}
 use Rattle.line_reader.specs.declared.Reading.TheVariants.{Counts, NoNumber}
 use Rattle.line_reader.proofs.Numbers.{at_most}
-use Rattle.signal.specs.declared.ReceivedCause.{ReceivedCause}
-use Rattle.signal.specs.declared.ReceivedCause.TheVariants.{NoCause, WithCause}
+use Rattle.signal.specs.declared.ReroutingCause.{ReroutingCause}
 use Rattle.events.specs.declared.Act.{Act}
 use Rattle.events.specs.declared.Node.{Node}
 use Rattle.event_record.specs.Claims.{CauseFits, Fits}
@@ -107,7 +107,7 @@ module _ (key : ℕ) (k : key < 4294967296) where
       either (is_word (first_word rest) "") (told (k, tt))
       (either (is_word (first_word rest) "cause") (calling_cause_sound (after_word rest)) expected)
 
-  crankback_sound : (c : ℕ) (cause : ReceivedCause) (what : What) (rest : List ℕ) → c < 65536 → CauseFits cause →
+  crankback_sound : (c : ℕ) (cause : Option ReroutingCause) (what : What) (rest : List ℕ) → c < 65536 → CauseFits cause →
       Sound (read_crankback key c cause what rest)
   unfolding read_crankback
   crankback_sound c cause what rest h f =
@@ -118,12 +118,12 @@ module _ (key : ℕ) (k : key < 4294967296) where
   called_cause_sound : (c : ℕ) (rest : List ℕ) → c < 65536 → Sound (read_called_cause key c rest)
   unfolding read_called_cause
   called_cause_sound c rest h =
-      of_number 255 (first_word rest) _ _ (λ n l. crankback_sound c (WithCause (record { number = n })) _ (after_word rest) h (omega arith))
+      of_number 255 (first_word rest) _ _ (λ n l. crankback_sound c (Some (record { number = n })) _ (after_word rest) h (omega arith))
 
   release_sound : (c : ℕ) (rest : List ℕ) → c < 65536 → Sound (read_release key c rest)
   unfolding read_release
   release_sound c rest h =
-      either (is_word (first_word rest) "cause") (called_cause_sound c (after_word rest) h) (crankback_sound c NoCause _ rest h tt)
+      either (is_word (first_word rest) "cause") (called_cause_sound c (after_word rest) h) (crankback_sound c None _ rest h tt)
 
   called_sound : (rest : List ℕ) → Sound (read_called key rest)
   unfolding read_called

@@ -5,8 +5,9 @@ use mathlib.Core.Path.{◌≡◌, refl, ◌∙◌, ap}
 use mathlib.Core.Bool.{Bool}
 use mathlib.Core.List.{List, ◌++◌}
 use mathlib.Core.Logic.{◌⊎◌, ⊎_elim}
+use Rattle.std.specs.Prelude.{Option}
 use Rattle.line_reader.specs.Words.{first_word, after_word}
-use Rattle.signal.specs.declared.ReceivedCause.{ReceivedCause}
+use Rattle.signal.specs.declared.ReroutingCause.{ReroutingCause}
 use Rattle.events.specs.declared.Act.{Act}
 use Rattle.events.specs.declared.Node.{Node}
 use Rattle.script_words.specs.declared.What.{What}
@@ -79,12 +80,12 @@ module _ (tail : List ℕ) (first : (rest : List ℕ) → first_word (rest ++ ta
   unfolding read_calling
   calling_same key rest = simp (first, calling_cause_behind)
 
-  crankback_same : (key c : ℕ) (cause : ReceivedCause) (what : What) (rest : List ℕ) →
+  crankback_same : (key c : ℕ) (cause : Option ReroutingCause) (what : What) (rest : List ℕ) →
       read_crankback key c cause what (rest ++ tail) ≡ read_crankback key c cause what rest
   unfolding read_crankback
   crankback_same key c cause what rest = simp (first, end_behind)
 
-  crankback_behind : (key c : ℕ) (cause : ReceivedCause) (what : What) (rest : List ℕ) →
+  crankback_behind : (key c : ℕ) (cause : Option ReroutingCause) (what : What) (rest : List ℕ) →
       read_crankback key c cause what (after_word (rest ++ tail)) ≡ read_crankback key c cause what (after_word rest)
   crankback_behind key c cause what rest = behind (read_crankback key c cause what) (crankback_same key c cause what) rest
 

@@ -14,6 +14,7 @@ use denote.Ref.{Bor}
 use types.Logic.{Logic}
 use prog.Memory.{Memory}
 use prog.Routine.{Routine}
+use Rattle.std.specs.Prelude.{Option}
 use Rattle.event_record.specs.Encoded.{octets_written}
 use Rattle.events.specs.declared.Act.TheVariants.{Meets}
 use Rattle.events.specs.declared.Node.TheVariants.{Source}
@@ -26,7 +27,7 @@ use Rattle.script_line.specs.Script.{full_name, read_keyed, name_of, parsed_of, 
 use Rattle.script_line.specs.declared.Parsed.TheVariants.{Wordless, Told, Expected}
 use Rattle.script_line.specs.declared.Parsed.{Parsed}
 use Rattle.signal.specs.declared.Crankback.TheVariants.{NoAlternate}
-use Rattle.signal.specs.declared.ReceivedCause.{ReceivedCause}
+use Rattle.signal.specs.declared.ReroutingCause.{ReroutingCause}
 use Rattle.script_line.specs.contracts.parse as parse
 
 -- something that is lent; where it stands says nothing here
@@ -59,7 +60,7 @@ module _ {M : Type 1} {𝓤 : Ura M} (𝓛 : Logic 𝓤) (memory : Memory → SP
 
   -- `alternate` is an alternate found
   pub alternate_taken_for_none_found :
-      (key connection : ℕ) (cause : ReceivedCause) →
+      (key connection : ℕ) (cause : Option ReroutingCause) →
       parse_shuts_out (ascii "called 7 3 alternate") (Told key (Meets (FromDomain connection cause NoAlternate)))
   unfolding first_word after_word number_up_to plain_name full_name name_of read_end read_crankback read_release read_called read_keyed parsed_of
   alternate_taken_for_none_found key connection cause κs =

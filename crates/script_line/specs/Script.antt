@@ -1,5 +1,5 @@
 -- A line of a script, by cases, over the octets of it that are left (docs/BENCH.md, "script"). Assumes nothing.
-use Rattle.std.specs.Prelude.{ℕ, Bool, true, false, cond, List}
+use Rattle.std.specs.Prelude.{ℕ, Bool, true, false, cond, List, Option, None, Some}
 use Prim.Native.String.{String}
 use Rattle.lines.specs.Lines.{ascii}
 use Rattle.line_reader.specs.Words.{first_word, after_word, same_text}
@@ -7,11 +7,9 @@ use Rattle.line_reader.specs.Numbers.{number_up_to}
 use Rattle.line_reader.specs.declared.Reading.{Reading}
 use Rattle.line_reader.specs.declared.Reading.TheVariants.{Counts, NoNumber}
 use Rattle.signal.specs.declared.Crankback.TheVariants.{NoCrankback, AlternateFound, NoAlternate}
-use Rattle.signal.specs.declared.ReceivedCause.{ReceivedCause}
-use Rattle.signal.specs.declared.ReceivedCause.TheVariants.{NoCause, WithCause}
+use Rattle.signal.specs.declared.ReroutingCause.{ReroutingCause}
 use Rattle.signal.specs.declared.Soft.{Soft}
 use Rattle.signal.specs.declared.Soft.TheVariants.{NoSoft, Asymmetric, Symmetric}
-use Rattle.signal.specs.declared.Wanted.TheVariants.{Unnamed, Named as With}
 use Rattle.events.specs.declared.Event.TheVariants.{Trigger, PathFound, NoPath, Connect, Setup, FromParty, FromDomain, Ready, Expiry}
 use Rattle.events.specs.declared.Act.{Act}
 use Rattle.events.specs.declared.Node.{Node}
@@ -64,7 +62,7 @@ unfoldable pub read_end : ℕ → Act → List ℕ → Parsed
 read_end key act rest = cond (is_word (first_word rest) "") (Told key act) (Expected NothingMore)
 
 abbrev pub read_services : ℕ → Bool → Soft → List ℕ → Parsed
-read_services key hard soft rest = read_end key (Opens (With (record { hard = hard; soft = soft }))) rest
+read_services key hard soft rest = read_end key (Opens (Some (record { hard = hard; soft = soft }))) rest
 
 unfoldable pub read_soft : ℕ → Bool → List ℕ → Parsed
 read_soft key hard rest =
@@ -74,7 +72,7 @@ read_soft key hard rest =
 
 unfoldable pub read_open : ℕ → List ℕ → Parsed
 read_open key rest =
-    cond (is_word (first_word rest) "") (Told key (Opens Unnamed))
+    cond (is_word (first_word rest) "") (Told key (Opens None))
     (cond (is_word (first_word rest) "hard") (read_soft key true (after_word rest))
     (cond (is_word (first_word rest) "nohard") (read_soft key false (after_word rest)) (Expected HardOrEnd)))
 
@@ -106,15 +104,15 @@ read_setup key rest = with_number (read_code (first_word rest)) ASwitchover (λ 
 unfoldable pub read_calling_cause : ℕ → List ℕ → Parsed
 read_calling_cause key rest =
     with_number (number_up_to 255 (first_word rest)) ACause
-    (λ n. read_end key (Meets (FromParty (WithCause (record { number = n })))) (after_word rest))
+    (λ n. read_end key (Meets (FromParty (Some (record { number = n })))) (after_word rest))
 
 unfoldable pub read_calling : ℕ → List ℕ → Parsed
 read_calling key rest =
-    cond (is_word (first_word rest) "") (Told key (Meets (FromParty NoCause)))
+    cond (is_word (first_word rest) "") (Told key (Meets (FromParty None)))
     (cond (is_word (first_word rest) "cause") (read_calling_cause key (after_word rest)) (Expected CauseOrEnd))
 
 -- the crankback of a release, or nothing; what else was expected depends on what stands before
-unfoldable pub read_crankback : ℕ → ℕ → ReceivedCause → What → List ℕ → Parsed
+unfoldable pub read_crankback : ℕ → ℕ → Option ReroutingCause → What → List ℕ → Parsed
 read_crankback key connection cause what rest =
     cond (is_word (first_word rest) "") (Told key (Meets (FromDomain connection cause NoCrankback)))
     (cond (is_word (first_word rest) "alternate") (read_end key (Meets (FromDomain connection cause AlternateFound)) (after_word rest))
@@ -124,12 +122,12 @@ read_crankback key connection cause what rest =
 unfoldable pub read_called_cause : ℕ → ℕ → List ℕ → Parsed
 read_called_cause key connection rest =
     with_number (number_up_to 255 (first_word rest)) ACause
-    (λ n. read_crankback key connection (WithCause (record { number = n })) CrankbackOrEnd (after_word rest))
+    (λ n. read_crankback key connection (Some (record { number = n })) CrankbackOrEnd (after_word rest))
 
 unfoldable pub read_release : ℕ → ℕ → List ℕ → Parsed
 read_release key connection rest =
     cond (is_word (first_word rest) "cause") (read_called_cause key connection (after_word rest))
-    (read_crankback key connection NoCause CauseCrankbackOrEnd rest)
+    (read_crankback key connection None CauseCrankbackOrEnd rest)
 
 unfoldable pub read_called : ℕ → List ℕ → Parsed
 read_called key rest = with_number (number_up_to 65535 (first_word rest)) AConnection (λ n. read_release key n (after_word rest))

@@ -14,7 +14,7 @@ ghost use Rattle.script_line.specs.Script.{name_at, parsed_of};
 use events::{Act, Event, Node};
 use line_reader::{Reading, after, is, number};
 use script_words::What;
-use signal::{Crankback, ReceivedCause, ReroutingCause, Services, Soft, Switchover, Wanted};
+use signal::{Crankback, ReroutingCause, Services, Soft, Switchover};
 
 #[derive(Clone, Copy)]
 pub enum Parsed {
@@ -61,7 +61,7 @@ fn services(line: &[u8], at: usize, key: u32, hard: bool, soft: Soft) -> Parsed
     ensures { result ≡ read_services key hard soft (drop at line.now) }
 {
     let services = Services { hard, soft };
-    end(line, at, key, Act::Opens(Wanted::Named(services)))
+    end(line, at, key, Act::Opens(Some(services)))
 }
 
 #[tactic(auto, using(line_reader::proofs::Laws::behind), unfolding(crate::specs::Script::read_soft))]
@@ -85,7 +85,7 @@ fn open(line: &[u8], at: usize, key: u32) -> Parsed
     ensures { result ≡ read_open key (drop at line.now) }
 {
     if is(line, at, b"") {
-        return Parsed::Told(key, Act::Opens(Wanted::Unnamed));
+        return Parsed::Told(key, Act::Opens(None));
     }
     if is(line, at, b"hard") {
         return soft(line, after(line, at), key, true);
@@ -179,7 +179,7 @@ fn calling_cause(line: &[u8], at: usize, key: u32) -> Parsed
     match cause {
         Reading::NoNumber => Parsed::Expected(What::ACause),
         Reading::Counts(found) => {
-            let received = ReceivedCause::WithCause(ReroutingCause {
+            let received = Some(ReroutingCause {
                 number: found as u8,
             });
             end(
@@ -197,7 +197,7 @@ fn calling(line: &[u8], at: usize, key: u32) -> Parsed
     ensures { result ≡ read_calling key (drop at line.now) }
 {
     if is(line, at, b"") {
-        return Parsed::Told(key, Act::Meets(Event::FromParty(ReceivedCause::NoCause)));
+        return Parsed::Told(key, Act::Meets(Event::FromParty(None)));
     }
     if is(line, at, b"cause") {
         return calling_cause(line, after(line, at), key);
@@ -212,7 +212,7 @@ fn crankback(
     at: usize,
     key: u32,
     connection: u16,
-    cause: ReceivedCause,
+    cause: Option<ReroutingCause>,
     what: What,
 ) -> Parsed
     ensures { result ≡ read_crankback key connection cause what (drop at line.now) }
@@ -250,7 +250,7 @@ fn called_cause(line: &[u8], at: usize, key: u32, connection: u16) -> Parsed
     match cause {
         Reading::NoNumber => Parsed::Expected(What::ACause),
         Reading::Counts(found) => {
-            let received = ReceivedCause::WithCause(ReroutingCause {
+            let received = Some(ReroutingCause {
                 number: found as u8,
             });
             crankback(
@@ -272,14 +272,7 @@ fn release(line: &[u8], at: usize, key: u32, connection: u16) -> Parsed
     if is(line, at, b"cause") {
         return called_cause(line, after(line, at), key, connection);
     }
-    crankback(
-        line,
-        at,
-        key,
-        connection,
-        ReceivedCause::NoCause,
-        What::CauseCrankbackOrEnd,
-    )
+    crankback(line, at, key, connection, None, What::CauseCrankbackOrEnd)
 }
 
 #[tactic(auto, using(crate::proofs::Laws::numbers), unfolding(crate::specs::Script::read_called))]

@@ -12,16 +12,14 @@ use contract.Monad.{Fun, fact, fact_mono}
 use types.Logic.{Logic}
 use prog.Memory.{Memory}
 use prog.Routine.{Routine}
+use Rattle.std.specs.Prelude.{Option, None, Some}
 use Rattle.signal.specs.Causes.{cause}
 use Rattle.signal.specs.Counting.{is_call_rejected, kind_number}
 use Rattle.signal.specs.Numbers.{answer_number}
 use Rattle.signal.specs.Signals.{none}
 use Rattle.signal.specs.declared.Crankback.TheVariants.{AlternateFound, NoAlternate}
 use Rattle.signal.specs.declared.Crankback.{Crankback}
-use Rattle.signal.specs.declared.Fresh.TheVariants.{Next, Spent}
-use Rattle.signal.specs.declared.Fresh.{Fresh}
-use Rattle.signal.specs.declared.ReceivedCause.TheVariants.{NoCause, WithCause}
-use Rattle.signal.specs.declared.ReceivedCause.{ReceivedCause}
+use Rattle.signal.specs.declared.ReroutingCause.{ReroutingCause}
 use Rattle.signal.specs.declared.SentCause.TheVariants.{Absent, AsReceived, Numbered}
 use Rattle.signal.specs.declared.SentCause.{SentCause}
 use Rattle.events.specs.declared.Node.TheVariants.{Destination, Source}
@@ -59,12 +57,12 @@ module _ {M : Type 1} {𝓤 : Ura M} (𝓛 : Logic 𝓤) (memory : Memory → SP
       fact_mono 𝓤 _ _ (λ h. let z : ◌≡◌ {A = ℕ} _ 106 = sym (ap (λ (r : Effect). answer_number r.answer) h) ∙ w in omega arith)
 
   -- soft_path: of an end, the next number and the incumbent, what comes of a path that was found in Soft Triggered
-  abbrev soft_path_shuts_out : Node → Fresh → ℕ → Effect → Type 1
+  abbrev soft_path_shuts_out : Node → Option ℕ → ℕ → Effect → Type 1
   soft_path_shuts_out node next incumbent r =
       NeverHolds ((soft_path.clauses 𝓛 memory run tt (node, (next, (incumbent, tt)))).ensures tt r (node, (next, (incumbent, tt))))
 
   -- the setup goes out on a new number, which is given (01, "Path found"; 6.3.6.1 case 1)
-  pub soft_path_gives_no_number : (r : Effect) → r.gives ≡ false → soft_path_shuts_out Source (Next 6) 3 r
+  pub soft_path_gives_no_number : (r : Effect) → r.gives ≡ false → soft_path_shuts_out Source (Some 6) 3 r
   soft_path_gives_no_number r w =
       fact_mono 𝓤 _ _ (λ h.
       let y : ◌≡◌ {A = Bool} _ false = sym (ap (λ (r : Effect). r.gives) h) ∙ w in
@@ -72,7 +70,7 @@ module _ {M : Type 1} {𝓤 : Ura M} (𝓛 : Logic 𝓤) (memory : Memory → SP
       omega arith)
 
   -- without a number for it the answer is 108 (01, "Numbers of refusal"; decision 60)
-  pub soft_path_at_65535_is_done : (r : Effect) → answer_number r.answer ≡ 0 → soft_path_shuts_out Destination Spent 3 r
+  pub soft_path_at_65535_is_done : (r : Effect) → answer_number r.answer ≡ 0 → soft_path_shuts_out Destination None 3 r
   soft_path_at_65535_is_done r w =
       fact_mono 𝓤 _ _ (λ h. let z : ◌≡◌ {A = ℕ} _ 0 = sym (ap (λ (r : Effect). answer_number r.answer) h) ∙ w in omega arith)
 
@@ -101,7 +99,7 @@ module _ {M : Type 1} {𝓤 : Ura M} (𝓛 : Logic 𝓤) (memory : Memory → SP
 
   -- soft_crankback: of an end, the cause, the crankback, the next number and the two that are held, what comes of the rerouting one's
   -- release
-  abbrev soft_crankback_shuts_out : Node → ReceivedCause → Crankback → Fresh → ℕ → ℕ → Effect → Type 1
+  abbrev soft_crankback_shuts_out : Node → Option ReroutingCause → Crankback → Option ℕ → ℕ → ℕ → Effect → Type 1
   soft_crankback_shuts_out node came back next incumbent rerouting r =
       NeverHolds ((soft_crankback.clauses 𝓛 memory run tt (node, (came, (back, (next, (incumbent, (rerouting, tt))))))
       ).ensures tt r (node, (came, (back, (next, (incumbent, (rerouting, tt)))))))
@@ -109,32 +107,32 @@ module _ {M : Type 1} {𝓤 : Ura M} (𝓛 : Logic 𝓤) (memory : Memory → SP
   -- crankback alone decides, whatever the cause (6.2.4.6 case 5, 6.3.4.8 case 5; decisions 8 and 69)
   pub cause_comes_before_crankback :
       (r : Effect) → state_number r.state ≡ 1 →
-      soft_crankback_shuts_out Destination (WithCause (cause 2)) AlternateFound (Next 6) 3 5 r
+      soft_crankback_shuts_out Destination (Some (cause 2)) AlternateFound (Some 6) 3 5 r
   cause_comes_before_crankback r w =
       fact_mono 𝓤 _ _ (λ h. let z : ◌≡◌ {A = ℕ} _ 1 = sym (ap (λ (r : Effect). state_number r.state) h) ∙ w in omega arith)
 
   -- without an alternate path the call is Idle again (6.2.4.6 case 6, 6.3.4.8 case 6; decision 75)
   pub no_alternate_stays_proceeding :
       (r : Effect) → state_number r.state ≡ 5 →
-      soft_crankback_shuts_out Destination NoCause NoAlternate (Next 6) 3 5 r
+      soft_crankback_shuts_out Destination None NoAlternate (Some 6) 3 5 r
   no_alternate_stays_proceeding r w =
       fact_mono 𝓤 _ _ (λ h. let z : ◌≡◌ {A = ℕ} _ 5 = sym (ap (λ (r : Effect). state_number r.state) h) ∙ w in omega arith)
 
   -- idle_lost: of an end, the hard service, the cause, the incumbent and the next number, what comes of the incumbent's release in Idle
-  abbrev idle_lost_shuts_out : Node → Bool → ReceivedCause → ℕ → Fresh → Effect → Type 1
+  abbrev idle_lost_shuts_out : Node → Bool → Option ReroutingCause → ℕ → Option ℕ → Effect → Type 1
   idle_lost_shuts_out node hard came incumbent next r =
       NeverHolds ((idle_lost.clauses 𝓛 memory run tt (node, (hard, (came, (incumbent, (next, tt)))))
       ).ensures tt r (node, (hard, (came, (incumbent, (next, tt))))))
 
   -- with hard off the call ends (6.2.4.2 case 3, 6.3.4.2 case 3; decisions 6 and 68)
-  pub hard_off_waits_for_a_reroute : (r : Effect) → state_number r.state ≡ 2 → idle_lost_shuts_out Destination false NoCause 3 (Next 6) r
+  pub hard_off_waits_for_a_reroute : (r : Effect) → state_number r.state ≡ 2 → idle_lost_shuts_out Destination false None 3 (Some 6) r
   hard_off_waits_for_a_reroute r w =
       fact_mono 𝓤 _ _ (λ h. let z : ◌≡◌ {A = ℕ} _ 2 = sym (ap (λ (r : Effect). state_number r.state) h) ∙ w in omega arith)
 
   -- #1 goes on without modification, so as received (6.2.4.2 case 3, 6.3.4.2 case 3; decisions 5 and 67)
   pub lost_in_idle_with_1_as_a_number :
       (r : Effect) → (get_or r.signals 0 none).cause ≡ Numbered (cause 1) →
-      idle_lost_shuts_out Destination true (WithCause (cause 1)) 3 (Next 6) r
+      idle_lost_shuts_out Destination true (Some (cause 1)) 3 (Some 6) r
   lost_in_idle_with_1_as_a_number r w =
       fact_mono 𝓤 _ _ (λ h.
       let y : ◌≡◌ {A = SentCause} _ (Numbered (cause 1)) = sym (ap (λ (r : Effect). (get_or r.signals 0 none).cause) h) ∙ w in
@@ -142,7 +140,7 @@ module _ {M : Type 1} {𝓤 : Ura M} (𝓛 : Logic 𝓤) (memory : Memory → SP
       omega arith)
 
   -- party_row: of the hard service, the cause, the one that Soft Triggered sends on and the state, what comes of the party's release
-  abbrev party_row_shuts_out : Bool → ReceivedCause → SentCause → State → Effect → Type 1
+  abbrev party_row_shuts_out : Bool → Option ReroutingCause → SentCause → State → Effect → Type 1
   party_row_shuts_out hard came triggered state r =
       NeverHolds ((party_row.clauses 𝓛 memory run tt (hard, (came, (triggered, (state, tt))))
       ).ensures tt r (hard, (came, (triggered, (state, tt)))))
@@ -150,7 +148,7 @@ module _ {M : Type 1} {𝓤 : Ura M} (𝓛 : Logic 𝓤) (memory : Memory → SP
   -- in HardUnderway a release without a cause goes on with #1, also with hard off (6.2.4.4 case 2, 6.3.4.4 case 2; decisions 6 and 66)
   pub hard_state_reads_the_hard_service :
       (r : Effect) → (get_or r.signals 1 none).cause ≡ Absent →
-      party_row_shuts_out false NoCause Absent (HardUnderway 5) r
+      party_row_shuts_out false None Absent (HardUnderway 5) r
   hard_state_reads_the_hard_service r w =
       fact_mono 𝓤 _ _ (λ h.
       let y : ◌≡◌ {A = SentCause} _ Absent = sym (ap (λ (r : Effect). (get_or r.signals 1 none).cause) h) ∙ w in
@@ -160,7 +158,7 @@ module _ {M : Type 1} {𝓤 : Ura M} (𝓛 : Logic 𝓤) (memory : Memory → SP
   -- Soft Triggered's release carries what its end says, and not the cause that came (decisions 1 and 65)
   pub soft_triggered_passes_the_cause_on :
       (r : Effect) → (get_or r.signals 0 none).cause ≡ AsReceived (cause 1) →
-      party_row_shuts_out true (WithCause (cause 1)) Absent (SoftTriggered 3) r
+      party_row_shuts_out true (Some (cause 1)) Absent (SoftTriggered 3) r
   soft_triggered_passes_the_cause_on r w =
       fact_mono 𝓤 _ _ (λ h.
       let y : ◌≡◌ {A = SentCause} _ (AsReceived (cause 1)) = sym (ap (λ (r : Effect). (get_or r.signals 0 none).cause) h) ∙ w in

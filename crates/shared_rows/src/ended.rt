@@ -6,7 +6,7 @@ ghost use Rattle.shared_rows.specs.Effects.{incumbent_ended, both_ended_with, pa
 
 use events::Node;
 use rows::{Class, Effect, State};
-use signal::{Answer, CauseCode, Fresh, Kind, ReceivedCause, ReroutingCause, SentCause, Signal};
+use signal::{Answer, CauseCode, Kind, ReroutingCause, SentCause, Signal};
 
 fn released(kind: Kind, connection: u16, cause: SentCause) -> Signal
     ensures { result ≡ release_of kind connection cause }
@@ -30,12 +30,17 @@ fn both_ended(incumbent: u16, rerouting: u16, cause: SentCause) -> Effect
 }
 
 // A release from the side of the node's own party. `triggered` is the cause that goes on in Soft Triggered.
-pub fn party_row(hard: bool, cause: ReceivedCause, triggered: SentCause, state: State) -> Effect
+pub fn party_row(
+    hard: bool,
+    cause: Option<ReroutingCause>,
+    triggered: SentCause,
+    state: State,
+) -> Effect
     ensures { result ≡ party_ended hard cause triggered state }
 {
     match state {
         State::Null => Effect::refused(Answer::NoMeaning, state),
-        State::Idle(i) => incumbent_ended(i, cause.passed(hard)),
+        State::Idle(i) => incumbent_ended(i, SentCause::passed(cause, hard)),
         State::HardWaiting => Effect::done(
             State::Null,
             Signal::TIMER_STOP,
@@ -43,13 +48,13 @@ pub fn party_row(hard: bool, cause: ReceivedCause, triggered: SentCause, state: 
             Signal::NONE,
         ),
         State::HardUnderway(r) => {
-            let sent = released(Kind::ReroutingRelease, r, cause.passed(true));
+            let sent = released(Kind::ReroutingRelease, r, SentCause::passed(cause, true));
             Effect::done(State::Null, Signal::TIMER_STOP, sent, Signal::NONE)
         }
         State::SoftTriggered(i) => incumbent_ended(i, triggered),
-        State::SoftProceeding(i, r) => both_ended(i, r, cause.passed(hard)),
-        State::SoftInitiated(i, r) => both_ended(i, r, cause.passed(hard)),
-        State::Awaiting(i, r) => both_ended(i, r, cause.passed(hard)),
+        State::SoftProceeding(i, r) => both_ended(i, r, SentCause::passed(cause, hard)),
+        State::SoftInitiated(i, r) => both_ended(i, r, SentCause::passed(cause, hard)),
+        State::Awaiting(i, r) => both_ended(i, r, SentCause::passed(cause, hard)),
     }
 }
 
@@ -76,9 +81,9 @@ pub fn expiry_row(node: Node, state: State) -> Effect
 pub fn idle_lost(
     node: Node,
     hard: bool,
-    cause: ReceivedCause,
+    cause: Option<ReroutingCause>,
     incumbent: u16,
-    next: Fresh,
+    next: Option<u16>,
 ) -> Effect
     ensures { result ≡ idle_lost_effect node hard cause incumbent next }
 {
@@ -95,7 +100,7 @@ pub fn idle_lost(
             }
             Effect::told(node, SentCause::Absent, Signal::NONE)
         }
-        Class::CameOutside => Effect::told(node, cause.as_received(), Signal::NONE),
+        Class::CameOutside => Effect::told(node, SentCause::as_received(cause), Signal::NONE),
         Class::CameComplete => Effect::told(node, failed, Signal::NONE),
         Class::CameOther => Effect::told(node, failed, Signal::NONE),
     }

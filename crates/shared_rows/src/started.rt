@@ -5,9 +5,7 @@ ghost use Rattle.shared_rows.specs.Effects.{trigger_in_effect, soft_path_effect,
 
 use events::Node;
 use rows::{Effect, State};
-use signal::{
-    Answer, CauseCode, Crankback, Fresh, Kind, ReceivedCause, ReroutingCause, SentCause, Signal,
-};
+use signal::{Answer, CauseCode, Crankback, Kind, ReroutingCause, SentCause, Signal};
 
 pub fn trigger_in(node: Node, state: State) -> Effect
     ensures { result ≡ trigger_in_effect node state }
@@ -24,16 +22,16 @@ pub fn trigger_in(node: Node, state: State) -> Effect
     }
 }
 
-pub fn soft_path(node: Node, next: Fresh, incumbent: u16) -> Effect
+pub fn soft_path(node: Node, next: Option<u16>, incumbent: u16) -> Effect
     ensures { result ≡ soft_path_effect node next incumbent }
 {
     match next {
-        Fresh::Next(number) => {
+        Some(number) => {
             let setup = Signal::naming(Kind::SetupRequest, number);
             let state = State::SoftProceeding(incumbent, number);
             Effect::given(state, false, setup, Signal::NONE, Signal::NONE)
         }
-        Fresh::Spent => Effect::refused(Answer::NumbersSpent, State::SoftTriggered(incumbent)),
+        None => Effect::refused(Answer::NumbersSpent, State::SoftTriggered(incumbent)),
     }
 }
 
@@ -75,9 +73,9 @@ pub fn soft_connect(
 // The rerouting connection is released.
 pub fn soft_crankback(
     node: Node,
-    cause: ReceivedCause,
+    cause: Option<ReroutingCause>,
     crankback: Crankback,
-    next: Fresh,
+    next: Option<u16>,
     incumbent: u16,
     rerouting: u16,
 ) -> Effect
@@ -87,12 +85,12 @@ pub fn soft_crankback(
         Crankback::NoCrankback => Effect::moved(State::Idle(incumbent)),
         Crankback::AlternateFound => {
             match next {
-                Fresh::Next(number) => {
+                Some(number) => {
                     let setup = Signal::naming(Kind::SetupRequest, number);
                     let state = State::SoftProceeding(incumbent, number);
                     Effect::given(state, false, setup, Signal::NONE, Signal::NONE)
                 }
-                Fresh::Spent => Effect::moved(State::Idle(incumbent)),
+                None => Effect::moved(State::Idle(incumbent)),
             }
         }
         Crankback::NoAlternate => Effect::moved(State::Idle(incumbent)),

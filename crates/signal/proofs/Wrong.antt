@@ -11,6 +11,7 @@ use contract.Monad.{Fun, fact, fact_mono}
 use types.Logic.{Logic}
 use prog.Memory.{Memory}
 use prog.Routine.{Routine}
+use Rattle.std.specs.Prelude.{Option, None, Some}
 use Rattle.signal.specs.Causes.{cause}
 use Rattle.signal.specs.Counting.{is_call_rejected}
 use Rattle.signal.specs.Numbers.{soft_number}
@@ -18,12 +19,8 @@ use Rattle.signal.specs.declared.Answer.TheVariants.{NotHeld, NumbersSpent}
 use Rattle.signal.specs.declared.Answer.{Answer}
 use Rattle.signal.specs.declared.CauseCode.TheVariants.{Section66, CallRejected}
 use Rattle.signal.specs.declared.CauseCode.{CauseCode}
-use Rattle.signal.specs.declared.Fresh.TheVariants.{Next}
-use Rattle.signal.specs.declared.Fresh.{Fresh}
 use Rattle.signal.specs.declared.Kind.TheVariants.{Switch, IncumbentRelease}
 use Rattle.signal.specs.declared.Kind.{Kind}
-use Rattle.signal.specs.declared.ReceivedCause.TheVariants.{NoCause, WithCause}
-use Rattle.signal.specs.declared.ReceivedCause.{ReceivedCause}
 use Rattle.signal.specs.declared.ReroutingCause.{ReroutingCause}
 use Rattle.signal.specs.declared.SentCause.TheVariants.{Absent, Numbered, AsReceived}
 use Rattle.signal.specs.declared.SentCause.{SentCause}
@@ -32,18 +29,16 @@ use Rattle.signal.specs.declared.Signal.{Signal}
 use Rattle.signal.specs.declared.Soft.TheVariants.{Asymmetric, NoSoft, Symmetric}
 use Rattle.signal.specs.declared.Soft.{Soft}
 use Rattle.signal.specs.declared.Switchover.{Switchover}
-use Rattle.signal.specs.declared.Wanted.TheVariants.{Unnamed}
-use Rattle.signal.specs.declared.Wanted.{Wanted}
-use Rattle.signal.specs.contracts.ReceivedCause.as_received as ReceivedCause-as_received
-use Rattle.signal.specs.contracts.ReceivedCause.passed as ReceivedCause-passed
+use Rattle.signal.specs.contracts.SentCause.as_received as SentCause-as_received
+use Rattle.signal.specs.contracts.SentCause.passed as SentCause-passed
 use Rattle.signal.specs.contracts.Switchover.clearing as Switchover-clearing
 use Rattle.signal.specs.contracts.Soft.number as Soft-number
-use Rattle.signal.specs.contracts.Wanted.services as Wanted-services
+use Rattle.signal.specs.contracts.Services.wanted as Services-wanted
 use Rattle.signal.specs.contracts.Signal.naming as Signal-naming
 use Rattle.signal.specs.contracts.Signal.release as Signal-release
 use Rattle.signal.specs.contracts.Signal.rejection as Signal-rejection
 use Rattle.signal.specs.contracts.Answer.number as Answer-number
-use Rattle.signal.specs.contracts.Fresh.after as Fresh-after
+use Rattle.signal.specs.contracts.fresh_after as fresh_after
 use Rattle.signal.specs.contracts.late as late
 
 module _ {M : Type 1} {𝓤 : Ura M} (𝓛 : Logic 𝓤) (memory : Memory → SProp 𝓤) (run : Routine → Fun 𝓤) where
@@ -52,26 +47,26 @@ module _ {M : Type 1} {𝓤 : Ura M} (𝓛 : Logic 𝓤) (memory : Memory → SP
   NeverHolds says = ent 𝓤 says (fact 𝓤 ⊥)
 
   -- as_received: of a cause that came, what is sent
-  abbrev as_received_shuts_out : ReceivedCause → SentCause → Type 1
-  as_received_shuts_out c r = NeverHolds ((ReceivedCause-as_received.clauses 𝓛 memory run tt (c, tt)).ensures tt r (c, tt))
+  abbrev as_received_shuts_out : Option ReroutingCause → SentCause → Type 1
+  as_received_shuts_out c r = NeverHolds ((SentCause-as_received.clauses 𝓛 memory run tt (c, tt)).ensures tt r (c, tt))
 
   -- a cause goes on without modification (01, "Signals"; decision 5)
-  pub received_cause_is_dropped : as_received_shuts_out (WithCause (cause 1)) Absent
+  pub received_cause_is_dropped : as_received_shuts_out (Some (cause 1)) Absent
   received_cause_is_dropped = fact_mono 𝓤 _ _ (λ h. let z : ◌≡◌ {A = ℕ} 0 1 = cc in omega arith)
 
-  pub received_cause_goes_on_as_a_number : as_received_shuts_out (WithCause (cause 1)) (Numbered (cause 1))
+  pub received_cause_goes_on_as_a_number : as_received_shuts_out (Some (cause 1)) (Numbered (cause 1))
   received_cause_goes_on_as_a_number = fact_mono 𝓤 _ _ (λ h. let z : ◌≡◌ {A = ℕ} 0 1 = cc in omega arith)
 
   -- passed: of a cause from the calling side and the hard service, what is sent
-  abbrev passed_shuts_out : ReceivedCause → Bool → SentCause → Type 1
-  passed_shuts_out c hard r = NeverHolds ((ReceivedCause-passed.clauses 𝓛 memory run tt (c, (hard, tt))).ensures tt r (c, (hard, tt)))
+  abbrev passed_shuts_out : Option ReroutingCause → Bool → SentCause → Type 1
+  passed_shuts_out c hard r = NeverHolds ((SentCause-passed.clauses 𝓛 memory run tt (c, (hard, tt))).ensures tt r (c, (hard, tt)))
 
   -- without a cause, hard on sends #1 (01, "Release from the calling side")
-  pub no_cause_with_hard_on_stays_absent : passed_shuts_out NoCause true Absent
+  pub no_cause_with_hard_on_stays_absent : passed_shuts_out None true Absent
   no_cause_with_hard_on_stays_absent = fact_mono 𝓤 _ _ (λ h. let z : ◌≡◌ {A = ℕ} 0 1 = cc in omega arith)
 
   -- a cause is passed unmodified
-  pub passed_cause_as_a_number : passed_shuts_out (WithCause (cause 4)) true (Numbered (cause 4))
+  pub passed_cause_as_a_number : passed_shuts_out (Some (cause 4)) true (Numbered (cause 4))
   passed_cause_as_a_number = fact_mono 𝓤 _ _ (λ h. let z : ◌≡◌ {A = ℕ} 0 1 = cc in omega arith)
 
   -- clearing: of a switchover code, whether it is the clearing behaviour
@@ -96,20 +91,20 @@ module _ {M : Type 1} {𝓤 : Ura M} (𝓛 : Logic 𝓤) (memory : Memory → SP
   pub symmetric_is_1 : soft_number_shuts_out Symmetric 1
   symmetric_is_1 = fact_mono 𝓤 _ _ (λ h. omega arith)
 
-  -- services: of what an opening says, the services that it takes
-  abbrev services_shuts_out : Wanted → Services → Type 1
-  services_shuts_out w r = NeverHolds ((Wanted-services.clauses 𝓛 memory run tt (w, tt)).ensures tt r (w, tt))
+  -- wanted: of what an opening says, the services that it takes
+  abbrev wanted_shuts_out : Option Services → Services → Type 1
+  wanted_shuts_out w r = NeverHolds ((Services-wanted.clauses 𝓛 memory run tt (w, tt)).ensures tt r (w, tt))
 
   -- an opening that names none takes hard on (02, Ask 1)
-  pub default_without_hard : (soft : Soft) → services_shuts_out Unnamed (record { hard = false; soft = soft })
+  pub default_without_hard : (soft : Soft) → wanted_shuts_out None (record { hard = false; soft = soft })
   default_without_hard soft = fact_mono 𝓤 _ _ (λ h. let z : ◌≡◌ {A = ℕ} 0 _ = ap (λ (s : Services). cond s.hard 1 0) h in omega arith)
 
   -- and soft asymmetric: not none, and not symmetric
-  pub default_with_soft_none : (hard : Bool) → services_shuts_out Unnamed (record { hard = hard; soft = NoSoft })
+  pub default_with_soft_none : (hard : Bool) → wanted_shuts_out None (record { hard = hard; soft = NoSoft })
   default_with_soft_none hard =
       fact_mono 𝓤 _ _ (λ h. let z : ◌≡◌ {A = ℕ} 0 _ = ap (λ (s : Services). soft_number s.soft) h in omega arith)
 
-  pub default_with_symmetric_soft : (hard : Bool) → services_shuts_out Unnamed (record { hard = hard; soft = Symmetric })
+  pub default_with_symmetric_soft : (hard : Bool) → wanted_shuts_out None (record { hard = hard; soft = Symmetric })
   default_with_symmetric_soft hard =
       fact_mono 𝓤 _ _ (λ h. let z : ◌≡◌ {A = ℕ} 2 _ = ap (λ (s : Services). soft_number s.soft) h in omega arith)
 
@@ -186,16 +181,16 @@ module _ {M : Type 1} {𝓤 : Ura M} (𝓛 : Logic 𝓤) (memory : Memory → SP
   pub numbers_spent_is_107 : answer_number_shuts_out NumbersSpent 107
   numbers_spent_is_107 = fact_mono 𝓤 _ _ (λ h. omega arith)
 
-  -- after: of the last number given, the next one
-  abbrev after_shuts_out : ℕ → Fresh → Type 1
-  after_shuts_out last r = NeverHolds ((Fresh-after.clauses 𝓛 memory run tt (last, tt)).ensures tt r (last, tt))
+  -- fresh_after: of the last number given, the next one
+  abbrev fresh_after_shuts_out : ℕ → Option ℕ → Type 1
+  fresh_after_shuts_out last r = NeverHolds ((fresh_after.clauses 𝓛 memory run tt (last, tt)).ensures tt r (last, tt))
 
   -- at 65,535 there is no next number (01, 108)
-  pub number_behind_65535 : after_shuts_out 65535 (Next 65536)
+  pub number_behind_65535 : fresh_after_shuts_out 65535 (Some 65536)
   number_behind_65535 = fact_mono 𝓤 _ _ (λ h. let z : ◌≡◌ {A = ℕ} 0 1 = cc in omega arith)
 
   -- a later connection takes the last number plus 1 (01, "The table and its records")
-  pub the_same_number_again : after_shuts_out 3 (Next 3)
+  pub the_same_number_again : fresh_after_shuts_out 3 (Some 3)
   the_same_number_again = fact_mono 𝓤 _ _ (λ h. let z : ◌≡◌ {A = ℕ} 3 4 = cc in omega arith)
 
   -- late: of a setup's number and the one on record, whether it is late (01, "Setup" row 2)

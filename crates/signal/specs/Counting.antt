@@ -1,13 +1,12 @@
 -- What a row of signals says, counted: the natural terms in which claims speak of signals. None of it mentions a state or a row.
 -- Assumes nothing.
-use Rattle.std.specs.Prelude.{ℕ, ◌+◌, ◌≡◌, Bool, true, false, ◌&&◌, ◌||◌, cond, List, [], ◌∷◌, eqb, ltb}
+use Rattle.std.specs.Prelude.{ℕ, ◌+◌, ◌≡◌, Bool, true, false, ◌&&◌, ◌||◌, cond, List, [], ◌∷◌, eqb, ltb, Option, Some}
 use Rattle.signal.specs.declared.Kind.{Kind}
 use Rattle.signal.specs.declared.Kind.TheVariants.{NoSignal, TimerStart, TimerStop, Switch, CallingRelease, IncumbentRelease}
 use Rattle.signal.specs.declared.Kind.TheVariants.{ReroutingRelease, SetupRequest, ConnectRequest, Rejection, CalledRelease}
 use Rattle.signal.specs.declared.SentCause.{SentCause}
 use Rattle.signal.specs.declared.SentCause.TheVariants.{Absent, Numbered, AsReceived}
-use Rattle.signal.specs.declared.ReceivedCause.{ReceivedCause}
-use Rattle.signal.specs.declared.ReceivedCause.TheVariants.{WithCause}
+use Rattle.signal.specs.declared.ReroutingCause.{ReroutingCause}
 use Rattle.signal.specs.declared.CauseCode.{CauseCode}
 use Rattle.signal.specs.declared.CauseCode.TheVariants.{Section66, CallRejected}
 use Rattle.signal.specs.declared.Signal.{Signal}
@@ -89,11 +88,11 @@ in_order (a ∷ []) = true
 in_order (a ∷ (b ∷ more)) = follows a.kind b.kind && in_order (b ∷ more)
 
 -- a cause goes out "as received" only where that very cause came
-abbrev pub CameSo : ReceivedCause → SentCause → Type 0
+abbrev pub CameSo : Option ReroutingCause → SentCause → Type 0
 CameSo got Absent = Unit
 CameSo got (Numbered k) = Unit
-CameSo got (AsReceived k) = got ≡ WithCause k
+CameSo got (AsReceived k) = got ≡ Some k
 
-abbrev pub Honest : ReceivedCause → List Signal → Type 0
+abbrev pub Honest : Option ReroutingCause → List Signal → Type 0
 Honest got [] = Unit
 Honest got (s ∷ more) = CameSo got s.cause × Honest got more

@@ -45,36 +45,22 @@ pub enum SentCause {
     AsReceived(ReroutingCause),
 }
 
-// The Rerouting cause that came with a release, or none.
-#[derive(Clone, Copy)]
-pub enum ReceivedCause {
-    NoCause,
-    WithCause(ReroutingCause),
-}
-
-impl ReceivedCause {
+impl SentCause {
     // A cause goes on as it came.
-    pub fn as_received(self) -> SentCause
-        ensures { result ≡ as_received self }
+    pub fn as_received(received: Option<ReroutingCause>) -> SentCause
+        ensures { result ≡ as_received received }
     {
-        match self {
-            ReceivedCause::NoCause => SentCause::Absent,
-            ReceivedCause::WithCause(received) => SentCause::AsReceived(received),
-        }
+        received.map_or(SentCause::Absent, SentCause::AsReceived)
     }
 
     // A cause is passed unmodified; none becomes #1 where hard rerouting is on (6.2.4.2 cases 1 and 2, and the like).
-    pub fn passed(self, hard: bool) -> SentCause
-        ensures { result ≡ passed hard self }
+    pub fn passed(received: Option<ReroutingCause>, hard: bool) -> SentCause
+        ensures { result ≡ passed hard received }
     {
-        match self {
-            ReceivedCause::NoCause => {
-                if hard {
-                    return SentCause::Numbered(ReroutingCause::OUTSIDE);
-                }
-                SentCause::Absent
-            }
-            ReceivedCause::WithCause(cause) => SentCause::AsReceived(cause),
+        match received {
+            Some(cause) => SentCause::AsReceived(cause),
+            None if hard => SentCause::Numbered(ReroutingCause::OUTSIDE),
+            None => SentCause::Absent,
         }
     }
 }
@@ -117,20 +103,16 @@ impl Switchover {
 
 #[derive(Clone, Copy)]
 pub enum Soft {
-    NoSoft,
-    Asymmetric,
-    Symmetric,
+    NoSoft = 0,
+    Asymmetric = 1,
+    Symmetric = 2,
 }
 
 impl Soft {
     pub fn number(self) -> u8
         ensures { result ≡ soft_number self }
     {
-        match self {
-            Soft::NoSoft => 0,
-            Soft::Asymmetric => 1,
-            Soft::Symmetric => 2,
-        }
+        self as u8
     }
 }
 
@@ -141,25 +123,18 @@ pub struct Services {
     pub soft: Soft,
 }
 
-// What an opening says of the services.
-#[derive(Clone, Copy)]
-pub enum Wanted {
-    Unnamed,
-    Named(Services),
-}
+impl Services {
+    // those of a call that is opened without named ones (02, Ask 1)
+    pub const DEFAULT: Services = Services {
+        hard: true,
+        soft: Soft::Asymmetric,
+    };
 
-impl Wanted {
     // The services that an opening takes: those that it names, or the default (02, Ask 1).
-    pub fn services(self) -> Services
-        ensures { result ≡ services_of self }
+    pub fn wanted(named: Option<Services>) -> Services
+        ensures { result ≡ services_of named }
     {
-        match self {
-            Wanted::Unnamed => Services {
-                hard: true,
-                soft: Soft::Asymmetric,
-            },
-            Wanted::Named(services) => services,
-        }
+        named.unwrap_or(Services::DEFAULT)
     }
 }
 
@@ -250,52 +225,31 @@ impl Signal {
 // The answers, in the order of their numbers (01, "Numbers of refusal").
 #[derive(Clone, Copy)]
 pub enum Answer {
-    Done,
-    TableUnfit,
-    KeyZero,
-    KeyOnRecord,
-    NoEmptyRecord,
-    KeyNotOnRecord,
-    NoMeaning,
-    NotHeld,
-    NumbersSpent,
+    Done = 0,
+    TableUnfit = 101,
+    KeyZero = 102,
+    KeyOnRecord = 103,
+    NoEmptyRecord = 104,
+    KeyNotOnRecord = 105,
+    NoMeaning = 106,
+    NotHeld = 107,
+    NumbersSpent = 108,
 }
 
 impl Answer {
     pub fn number(self) -> u16
         ensures { result ≡ answer_number self }
     {
-        match self {
-            Answer::Done => 0,
-            Answer::TableUnfit => 101,
-            Answer::KeyZero => 102,
-            Answer::KeyOnRecord => 103,
-            Answer::NoEmptyRecord => 104,
-            Answer::KeyNotOnRecord => 105,
-            Answer::NoMeaning => 106,
-            Answer::NotHeld => 107,
-            Answer::NumbersSpent => 108,
-        }
+        self as u16
     }
 }
 
-// The connection number that a call may be given next.
-#[derive(Clone, Copy)]
-pub enum Fresh {
-    Next(u16),
-    Spent,
-}
-
-impl Fresh {
-    // The last number plus 1, as long as that is a number (01, "The table and its records"; 108).
-    pub fn after(last: u16) -> Fresh
-        ensures { result ≡ fresh_after last }
-    {
-        if last < 65535 {
-            return Fresh::Next(last + 1);
-        }
-        Fresh::Spent
-    }
+// The connection number that a call may be given next: the last number plus 1, as long as that is a number (01, "The table and its
+// records"; 108).
+pub fn fresh_after(last: u16) -> Option<u16>
+    ensures { result ≡ fresh_after last }
+{
+    last.checked_add(1)
 }
 
 // Is a setup's incarnation number not greater than the one on record (6.2.7, the number check)?

@@ -11,19 +11,7 @@ use signal::{CauseCode, Kind, SentCause, Signal};
 fn sent(kind: Kind) -> bool
     ensures { result ≡ is_sent kind }
 {
-    match kind {
-        Kind::NoSignal => false,
-        Kind::TimerStart => true,
-        Kind::TimerStop => true,
-        Kind::Switch => true,
-        Kind::CallingRelease => true,
-        Kind::IncumbentRelease => true,
-        Kind::ReroutingRelease => true,
-        Kind::SetupRequest => true,
-        Kind::ConnectRequest => true,
-        Kind::Rejection => true,
-        Kind::CalledRelease => true,
-    }
+    !matches!(kind, Kind::NoSignal)
 }
 
 // Whether one stands before the next.

@@ -9,10 +9,10 @@ ghost use Rattle.source_rows.specs.Rows.{soft_triggered_passing};
 ghost use Rattle.source_endings.specs.Effects.{calling_effect};
 
 use rows::{Class, Effect, State};
-use signal::{ReceivedCause, ReroutingCause, SentCause};
+use signal::{ReroutingCause, SentCause};
 
 // Normal call clearing in Soft Triggered reads the cause only to see whether one came (6.2.4.1 case 1).
-fn soft_triggered_cause(hard: bool, cause: ReceivedCause) -> SentCause
+fn soft_triggered_cause(hard: bool, cause: Option<ReroutingCause>) -> SentCause
     ensures { result ≡ said cause (soft_triggered_passing hard (class_of cause)) }
 {
     match rows::class_of(cause) {
@@ -28,7 +28,7 @@ fn soft_triggered_cause(hard: bool, cause: ReceivedCause) -> SentCause
     }
 }
 
-pub fn calling_row(hard: bool, cause: ReceivedCause, state: State) -> Effect
+pub fn calling_row(hard: bool, cause: Option<ReroutingCause>, state: State) -> Effect
     ensures { result ≡ calling_effect hard cause state }
 {
     let triggered = soft_triggered_cause(hard, cause);

@@ -13,9 +13,7 @@ ghost use Rattle.source_releases.specs.Effects.{told_both};
 
 use events::Node;
 use rows::{Class, Effect, State};
-use signal::{
-    Answer, CauseCode, Crankback, Fresh, Kind, ReceivedCause, ReroutingCause, SentCause, Signal,
-};
+use signal::{Answer, CauseCode, Crankback, Kind, ReroutingCause, SentCause, Signal};
 
 // The calling side and the rerouting connection are released with one cause.
 fn told_both(rerouting: u16, cause: SentCause) -> Effect
@@ -31,12 +29,12 @@ fn told_both(rerouting: u16, cause: SentCause) -> Effect
 }
 
 // 6.2.4.4 case 6, the node's choice: it tries again.
-fn hard_again(cause: ReceivedCause, next: Fresh, rerouting: u16) -> Effect
+fn hard_again(cause: Option<ReroutingCause>, next: Option<u16>, rerouting: u16) -> Effect
     ensures { result ≡ at_source (HardUnderway rerouting) next cause (hard_again (is_next next)) }
 {
     match next {
-        Fresh::Next(_) => Effect::moved(State::HardWaiting),
-        Fresh::Spent => Effect::told_stopping(
+        Some(_) => Effect::moved(State::HardWaiting),
+        None => Effect::told_stopping(
             Node::Source,
             SentCause::Numbered(ReroutingCause::NOT_RECOVERED),
         ),
@@ -44,16 +42,16 @@ fn hard_again(cause: ReceivedCause, next: Fresh, rerouting: u16) -> Effect
 }
 
 // Case 4: a retry over an alternate path.
-fn hard_alternate(cause: ReceivedCause, next: Fresh, rerouting: u16) -> Effect
+fn hard_alternate(cause: Option<ReroutingCause>, next: Option<u16>, rerouting: u16) -> Effect
     ensures { result ≡ at_source (HardUnderway rerouting) next cause (hard_alternate (is_next next)) }
 {
     match next {
-        Fresh::Next(number) => {
+        Some(number) => {
             let setup = Signal::naming(Kind::SetupRequest, number);
             let state = State::HardUnderway(number);
             Effect::given(state, false, setup, Signal::NONE, Signal::NONE)
         }
-        Fresh::Spent => Effect::told_stopping(
+        None => Effect::told_stopping(
             Node::Source,
             SentCause::Numbered(ReroutingCause::NOT_RECOVERED),
         ),
@@ -61,7 +59,12 @@ fn hard_alternate(cause: ReceivedCause, next: Fresh, rerouting: u16) -> Effect
 }
 
 // Cases 3 to 6: a cause comes before crankback.
-fn hard_lost(cause: ReceivedCause, crankback: Crankback, next: Fresh, rerouting: u16) -> Effect
+fn hard_lost(
+    cause: Option<ReroutingCause>,
+    crankback: Crankback,
+    next: Option<u16>,
+    rerouting: u16,
+) -> Effect
     ensures { result ≡ at_source (HardUnderway rerouting) next cause (hard_lost (class_of cause) crankback (is_next next)) }
 {
     let failed = SentCause::Numbered(ReroutingCause::NOT_RECOVERED);
@@ -73,7 +76,7 @@ fn hard_lost(cause: ReceivedCause, crankback: Crankback, next: Fresh, rerouting:
                 Crankback::NoAlternate => Effect::told_stopping(Node::Source, failed),
             }
         }
-        Class::CameOutside => Effect::told_stopping(Node::Source, cause.as_received()),
+        Class::CameOutside => Effect::told_stopping(Node::Source, SentCause::as_received(cause)),
         Class::CameComplete => Effect::told_stopping(Node::Source, failed),
         Class::CameOther => Effect::told_stopping(Node::Source, failed),
     }
@@ -82,10 +85,10 @@ fn hard_lost(cause: ReceivedCause, crankback: Crankback, next: Fresh, rerouting:
 // D17
 fn soft_lost(
     hard: bool,
-    cause: ReceivedCause,
+    cause: Option<ReroutingCause>,
     incumbent: u16,
     rerouting: u16,
-    next: Fresh,
+    next: Option<u16>,
 ) -> Effect
     ensures { result ≡ at_source (SoftProceeding incumbent rerouting) next cause (soft_lost hard (class_of cause)) }
 {
@@ -120,10 +123,10 @@ fn soft_lost(
 // D18
 fn initiated_lost(
     hard: bool,
-    cause: ReceivedCause,
+    cause: Option<ReroutingCause>,
     incumbent: u16,
     rerouting: u16,
-    next: Fresh,
+    next: Option<u16>,
 ) -> Effect
     ensures { result ≡ at_source (SoftInitiated incumbent rerouting) next cause (initiated_lost hard (class_of cause)) }
 {
@@ -157,7 +160,12 @@ fn initiated_lost(
 }
 
 // D19, the incumbent
-fn awaiting_lost(cause: ReceivedCause, incumbent: u16, rerouting: u16, next: Fresh) -> Effect
+fn awaiting_lost(
+    cause: Option<ReroutingCause>,
+    incumbent: u16,
+    rerouting: u16,
+    next: Option<u16>,
+) -> Effect
     ensures { result ≡ at_source (Awaiting incumbent rerouting) next cause (awaiting_lost (class_of cause)) }
 {
     let switch = Signal::naming(Kind::Switch, rerouting);
@@ -178,7 +186,12 @@ fn awaiting_lost(cause: ReceivedCause, incumbent: u16, rerouting: u16, next: Fre
 }
 
 // D19, the rerouting connection
-fn awaiting_dropped(cause: ReceivedCause, incumbent: u16, rerouting: u16, next: Fresh) -> Effect
+fn awaiting_dropped(
+    cause: Option<ReroutingCause>,
+    incumbent: u16,
+    rerouting: u16,
+    next: Option<u16>,
+) -> Effect
     ensures { result ≡ at_source (Awaiting incumbent rerouting) next cause (awaiting_dropped (class_of cause)) }
 {
     let outside = SentCause::Numbered(ReroutingCause::OUTSIDE);
@@ -198,7 +211,13 @@ fn awaiting_dropped(cause: ReceivedCause, incumbent: u16, rerouting: u16, next: 
 }
 
 // The rows by state: the connection that is named is one that the state holds, or the release is refused (107).
-fn idle_called(hard: bool, connection: u16, cause: ReceivedCause, next: Fresh, i: u16) -> Effect
+fn idle_called(
+    hard: bool,
+    connection: u16,
+    cause: Option<ReroutingCause>,
+    next: Option<u16>,
+    i: u16,
+) -> Effect
     ensures { result ≡ idle_called hard connection cause next i }
 {
     if connection == i {
@@ -210,9 +229,9 @@ fn idle_called(hard: bool, connection: u16, cause: ReceivedCause, next: Fresh, i
 fn proceeding_called(
     hard: bool,
     connection: u16,
-    cause: ReceivedCause,
+    cause: Option<ReroutingCause>,
     crankback: Crankback,
-    next: Fresh,
+    next: Option<u16>,
     i: u16,
     r: u16,
 ) -> Effect
@@ -230,8 +249,8 @@ fn proceeding_called(
 fn initiated_called(
     hard: bool,
     connection: u16,
-    cause: ReceivedCause,
-    next: Fresh,
+    cause: Option<ReroutingCause>,
+    next: Option<u16>,
     i: u16,
     r: u16,
 ) -> Effect
@@ -246,7 +265,13 @@ fn initiated_called(
     Effect::refused(Answer::NotHeld, State::SoftInitiated(i, r))
 }
 
-fn awaiting_called(connection: u16, cause: ReceivedCause, next: Fresh, i: u16, r: u16) -> Effect
+fn awaiting_called(
+    connection: u16,
+    cause: Option<ReroutingCause>,
+    next: Option<u16>,
+    i: u16,
+    r: u16,
+) -> Effect
     ensures { result ≡ awaiting_called connection cause next i r }
 {
     if connection == i {
@@ -261,9 +286,9 @@ fn awaiting_called(connection: u16, cause: ReceivedCause, next: Fresh, i: u16, r
 pub fn called_row(
     hard: bool,
     connection: u16,
-    cause: ReceivedCause,
+    cause: Option<ReroutingCause>,
     crankback: Crankback,
-    next: Fresh,
+    next: Option<u16>,
     state: State,
 ) -> Effect
     ensures { result ≡ called_effect hard connection cause crankback next state }

@@ -10,13 +10,12 @@ use contract.Monad.{Fun, fact, fact_mono}
 use types.Logic.{Logic}
 use prog.Memory.{Memory}
 use prog.Routine.{Routine}
+use Rattle.std.specs.Prelude.{Option, None, Some}
 use Rattle.rows.specs.States.{incumbent_of, state_number}
 use Rattle.rows.specs.declared.Effect.{Effect}
 use Rattle.rows.specs.declared.State.TheVariants.{HardWaiting, Idle, SoftTriggered}
 use Rattle.rows.specs.declared.State.{State}
 use Rattle.signal.specs.Numbers.{answer_number}
-use Rattle.signal.specs.declared.Fresh.TheVariants.{Next, Spent}
-use Rattle.signal.specs.declared.Fresh.{Fresh}
 use Rattle.signal.specs.declared.Soft.TheVariants.{Asymmetric, NoSoft}
 use Rattle.signal.specs.declared.Soft.{Soft}
 use Rattle.source_requests.specs.contracts.trigger.trigger_row as trigger_row
@@ -44,17 +43,17 @@ module _ {M : Type 1} {𝓤 : Ura M} (𝓛 : Logic 𝓤) (memory : Memory → SP
       fact_mono 𝓤 _ _ (λ h. let z : ◌≡◌ {A = ℕ} _ 107 = sym (ap (λ (r : Effect). answer_number r.answer) h) ∙ w in omega arith)
 
   -- path_row: of the next number and the state, what comes of a path that was found
-  abbrev path_row_shuts_out : Fresh → State → Effect → Type 1
+  abbrev path_row_shuts_out : Option ℕ → State → Effect → Type 1
   path_row_shuts_out next state r =
       NeverHolds ((path_row.clauses 𝓛 memory run tt (next, (state, tt))).ensures tt r (next, (state, tt)))
 
   -- without a number there is no setup: 108 (01, "Numbers of refusal")
-  pub setup_on_no_number : (r : Effect) → answer_number r.answer ≡ 0 → path_row_shuts_out Spent HardWaiting r
+  pub setup_on_no_number : (r : Effect) → answer_number r.answer ≡ 0 → path_row_shuts_out None HardWaiting r
   setup_on_no_number r w =
       fact_mono 𝓤 _ _ (λ h. let z : ◌≡◌ {A = ℕ} _ 0 = sym (ap (λ (r : Effect). answer_number r.answer) h) ∙ w in omega arith)
 
   -- the incumbent stays the incumbent (01, "Path found"; B11)
-  pub soft_path_exchanges_connections : (r : Effect) → incumbent_of r.state ≡ 6 → path_row_shuts_out (Next 6) (SoftTriggered 3) r
+  pub soft_path_exchanges_connections : (r : Effect) → incumbent_of r.state ≡ 6 → path_row_shuts_out (Some 6) (SoftTriggered 3) r
   soft_path_exchanges_connections r w =
       fact_mono 𝓤 _ _ (λ h. let z : ◌≡◌ {A = ℕ} _ 6 = sym (ap (λ (r : Effect). incumbent_of r.state) h) ∙ w in omega arith)
 

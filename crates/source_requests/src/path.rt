@@ -5,23 +5,23 @@ ghost use Rattle.source_requests.specs.Effects.{path_effect, no_path_effect};
 
 use events::Node;
 use rows::{Effect, State};
-use signal::{Answer, Fresh, Kind, Signal};
+use signal::{Answer, Kind, Signal};
 
 // 6.2.5.1
-fn hard_path(next: Fresh) -> Effect
+fn hard_path(next: Option<u16>) -> Effect
     ensures { result ≡ path_effect next HardWaiting }
 {
     match next {
-        Fresh::Next(number) => {
+        Some(number) => {
             let setup = Signal::naming(Kind::SetupRequest, number);
             let state = State::HardUnderway(number);
             Effect::given(state, false, setup, Signal::NONE, Signal::NONE)
         }
-        Fresh::Spent => Effect::refused(Answer::NumbersSpent, State::HardWaiting),
+        None => Effect::refused(Answer::NumbersSpent, State::HardWaiting),
     }
 }
 
-pub fn path_row(next: Fresh, state: State) -> Effect
+pub fn path_row(next: Option<u16>, state: State) -> Effect
     ensures { result ≡ path_effect next state }
 {
     match state {

@@ -2,12 +2,11 @@
 -- Shared. To be held against 01, "Events and rows", and sections 6.2.4 to 6.2.7; "decision N" is a point of docs/DECISIONS.md. The states
 -- have the source's own names; the party is the calling one, and the release from across the domain is the called side's. A clause that
 -- refuses names 106, 107 or 108 (01, "Numbers of refusal"). Assumes nothing.
-use Rattle.std.specs.Prelude.{Bool, cond}
+use Rattle.std.specs.Prelude.{ℕ, Bool, cond, Option}
 use Rattle.signal.specs.declared.Answer.TheVariants.{NoMeaning, NotHeld, NumbersSpent}
 use Rattle.signal.specs.declared.Crankback.{Crankback}
 use Rattle.signal.specs.declared.Crankback.TheVariants.{AlternateFound, NoAlternate, NoCrankback}
-use Rattle.signal.specs.declared.Fresh.{Fresh}
-use Rattle.signal.specs.declared.ReceivedCause.{ReceivedCause}
+use Rattle.signal.specs.declared.ReroutingCause.{ReroutingCause}
 use Rattle.signal.specs.declared.Soft.{Soft}
 use Rattle.signal.specs.declared.Soft.TheVariants.{Asymmetric, NoSoft, Symmetric}
 use Rattle.events.specs.declared.Event.{Event}
@@ -232,7 +231,7 @@ abbrev pub source_row : Case → Rule
 source_row c = row_in c.phase c.hard c.soft c.room c.happening
 
 -- a rule, carried out at the source
-abbrev pub at_source : State → Fresh → ReceivedCause → Rule → Effect
+abbrev pub at_source : State → Option ℕ → Option ReroutingCause → Rule → Effect
 at_source = carried_at Source
 
 -- what an event does to a call: the row of its case, carried out

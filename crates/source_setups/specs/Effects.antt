@@ -1,12 +1,9 @@
 -- The rows of a setup and of "ready", carried out: what the functions of this crate return. Assumes nothing.
-use Rattle.std.specs.Prelude.{ℕ, false, true, [], ◌∷◌}
+use Rattle.std.specs.Prelude.{ℕ, false, true, [], ◌∷◌, Option, None}
 use Rattle.signal.specs.Causes.{in_progress}
 use Rattle.signal.specs.Numbers.{is_late}
 use Rattle.signal.specs.Signals.{places, rejection}
 use Rattle.signal.specs.declared.Answer.TheVariants.{Done}
-use Rattle.signal.specs.declared.Fresh.{Fresh}
-use Rattle.signal.specs.declared.Fresh.TheVariants.{Spent}
-use Rattle.signal.specs.declared.ReceivedCause.TheVariants.{NoCause}
 use Rattle.signal.specs.declared.Soft.{Soft}
 use Rattle.signal.specs.declared.Switchover.{Switchover}
 use Rattle.rows.specs.Cases.{asking_of}
@@ -20,9 +17,9 @@ use Rattle.source_rows.specs.Rows.{at_source, ready_row, setup_row}
 abbrev pub in_progress_stored : State → Effect
 in_progress_stored s = record { answer = Done; state = s; gives = false; stores = true; signals = places (rejection in_progress ∷ []) }
 
-abbrev pub setup_effect : Soft → Switchover → ℕ → ℕ → Fresh → State → Effect
+abbrev pub setup_effect : Soft → Switchover → ℕ → ℕ → Option ℕ → State → Effect
 setup_effect soft code number remote next s =
-    at_source s next NoCause (setup_row (phase_of s) soft (is_next next) (asking_of code) (is_late number remote))
+    at_source s next None (setup_row (phase_of s) soft (is_next next) (asking_of code) (is_late number remote))
 
 abbrev pub ready_effect : State → Effect
-ready_effect s = at_source s Spent NoCause (ready_row (phase_of s))
+ready_effect s = at_source s None None (ready_row (phase_of s))

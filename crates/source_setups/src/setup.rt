@@ -1,6 +1,5 @@
 // A reroute setup from the neighbour, 6.2.7: the checks in their order, then the rows by state.
-ghost use Rattle.std.specs.Prelude.{◌≡◌, true};
-ghost use Rattle.signal.specs.declared.ReceivedCause.TheVariants.{NoCause};
+ghost use Rattle.std.specs.Prelude.{◌≡◌, true, None};
 ghost use Rattle.signal.specs.Numbers.{is_late};
 ghost use Rattle.signal.specs.declared.Kind.TheVariants.{ReroutingRelease};
 ghost use Rattle.signal.specs.declared.SentCause.TheVariants.{Absent};
@@ -14,7 +13,7 @@ ghost use Rattle.source_rows.specs.Shared.{in_call};
 ghost use Rattle.source_setups.specs.Effects.{in_progress_stored, setup_effect};
 
 use rows::{Effect, State};
-use signal::{Answer, CauseCode, Fresh, Kind, ReroutingCause, SentCause, Signal, Soft, Switchover};
+use signal::{Answer, CauseCode, Kind, ReroutingCause, SentCause, Signal, Soft, Switchover};
 
 // Row 4: a new rerouting connection; and row 5: the older one is released on its own number.
 fn accepted(incumbent: u16, rerouting: u16, sent: Signal) -> Effect
@@ -58,15 +57,15 @@ fn in_progress(state: State) -> Effect
     }
 }
 
-fn setup_in(next: Fresh, state: State) -> Effect
-    ensures { result ≡ at_source state next NoCause (setup_in (phase_of state) (is_next next)) }
+fn setup_in(next: Option<u16>, state: State) -> Effect
+    ensures { result ≡ at_source state next None (setup_in (phase_of state) (is_next next)) }
 {
     match state {
         State::Null => Effect::refused(Answer::NoMeaning, state),
         State::Idle(i) => {
             match next {
-                Fresh::Next(n) => accepted(i, n, Signal::NONE),
-                Fresh::Spent => Effect::refused(Answer::NumbersSpent, state),
+                Some(n) => accepted(i, n, Signal::NONE),
+                None => Effect::refused(Answer::NumbersSpent, state),
             }
         }
         State::HardWaiting => in_progress(state),
@@ -75,22 +74,28 @@ fn setup_in(next: Fresh, state: State) -> Effect
         State::SoftProceeding(_, _) => in_progress(state),
         State::SoftInitiated(i, r) => {
             match next {
-                Fresh::Next(n) => accepted(i, n, older_released(r)),
-                Fresh::Spent => Effect::refused(Answer::NumbersSpent, state),
+                Some(n) => accepted(i, n, older_released(r)),
+                None => Effect::refused(Answer::NumbersSpent, state),
             }
         }
         State::Awaiting(i, r) => {
             match next {
-                Fresh::Next(n) => accepted(i, n, older_released(r)),
-                Fresh::Spent => Effect::refused(Answer::NumbersSpent, state),
+                Some(n) => accepted(i, n, older_released(r)),
+                None => Effect::refused(Answer::NumbersSpent, state),
             }
         }
     }
 }
 
 // Rows 1 and 2 come before the state is looked at.
-fn setup_checked(code: Switchover, number: u32, remote: u32, next: Fresh, state: State) -> Effect
-    ensures { result ≡ at_source state next NoCause (setup_asked (asking_of code) (is_late number remote) (phase_of state) (is_next next)) }
+fn setup_checked(
+    code: Switchover,
+    number: u32,
+    remote: u32,
+    next: Option<u16>,
+    state: State,
+) -> Effect
+    ensures { result ≡ at_source state next None (setup_asked (asking_of code) (is_late number remote) (phase_of state) (is_next next)) }
 {
     if code.clearing() {
         if signal::late(number, remote) {
@@ -102,8 +107,8 @@ fn setup_checked(code: Switchover, number: u32, remote: u32, next: Fresh, state:
 }
 
 // In Null no event has a meaning.
-fn setup_met(code: Switchover, number: u32, remote: u32, next: Fresh, state: State) -> Effect
-    ensures { result ≡ at_source state next NoCause
+fn setup_met(code: Switchover, number: u32, remote: u32, next: Option<u16>, state: State) -> Effect
+    ensures { result ≡ at_source state next None
         (in_call (phase_of state) (setup_asked (asking_of code) (is_late number remote) (phase_of state) (is_next next))) }
 {
     match state {
@@ -123,7 +128,7 @@ pub fn setup_row(
     code: Switchover,
     number: u32,
     remote: u32,
-    next: Fresh,
+    next: Option<u16>,
     state: State,
 ) -> Effect
     ensures { result ≡ setup_effect soft code number remote next state }

@@ -3,8 +3,8 @@ use Rattle.std.proofs.Common.{sym}
 use Rattle.lines.proofs.Laws.{and_then, put_none}
 use Rattle.event_words.proofs.put_cause.Goals as goal
 
-pub returns-in-NoCause : goal.returns-in-NoCause
-returns-in-NoCause c = rw c.in-NoCause.is (sym (put_none _))
+pub returns-in-None : goal.returns-in-None
+returns-in-None c = rw c.in-None.is (sym (put_none _))
 
-pub returns-in-WithCause : goal.returns-in-WithCause
-returns-in-WithCause c = rw c.in-WithCause.is (and_then _ _ _ _ _ c.put_word-place.ensures c.put_then.ensures)
+pub returns-in-Some : goal.returns-in-Some
+returns-in-Some c = rw c.in-Some.is (and_then _ _ _ _ _ c.put_word-place.ensures c.put_then.ensures)

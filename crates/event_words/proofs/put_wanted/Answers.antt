@@ -3,8 +3,8 @@ use Rattle.std.proofs.Common.{sym}
 use Rattle.lines.proofs.Laws.{and_then, put_none}
 use Rattle.event_words.proofs.put_wanted.Goals as goal
 
-pub returns-in-Unnamed : goal.returns-in-Unnamed
-returns-in-Unnamed c = rw c.in-Unnamed.is (sym (put_none _))
+pub returns-in-None : goal.returns-in-None
+returns-in-None c = rw c.in-None.is (sym (put_none _))
 
-pub returns-in-Named : goal.returns-in-Named
-returns-in-Named c = rw c.in-Named.is (and_then _ _ _ _ _ c.put_hard-place.ensures c.put_soft.ensures)
+pub returns-in-Some : goal.returns-in-Some
+returns-in-Some c = rw c.in-Some.is (and_then _ _ _ _ _ c.put_hard-place.ensures c.put_soft.ensures)

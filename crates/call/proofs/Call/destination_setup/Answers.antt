@@ -5,5 +5,5 @@ use Rattle.call.proofs.Call.destination_setup.Goals as goal
 
 pub returns : goal.returns
 returns c =
-    rw (c.carried.ensures, c.setup_row.ensures, c.after-next.ensures)
+    rw (c.carried.ensures, c.setup_row.ensures, c.fresh_after-next.ensures)
     (fresh_is destination c.args.self (Setup c.args.code c.args.number))
