@@ -1,13 +1,16 @@
-// Numbers in decimal, each with the byte that ends it, put into a lent buffer at speed.
+// Numbers in decimal, each with the byte that ends it, put at the end of a line at speed.
 //
 // What is put is what crates/lines puts, and the contract says it in the same words. Where there is room for the longest number its digits
 // are stored at their places, the last first; near the end of the buffer they go byte by byte.
 #![tactic(auto)]
 
-ghost use Rattle.std.specs.Prelude.{◌+◌, ◌≤◌, ◌≡◌, ◌++◌, ◌∷◌, [], length};
+ghost use Rattle.std.specs.Prelude.{true, ◌+◌, ◌≤◌, ◌≡◌, ◌++◌, ◌∷◌, [], length};
 ghost use Rattle.io.specs.Digits.{last_digits, IsDigitCount};
-ghost use Rattle.lines.specs.Lines.{page, put_text, number_text};
+ghost use Rattle.lines.specs.Lines.{number_text};
+ghost use Rattle.lines.specs.Line.{with_text};
 ghost use Rattle.fields.specs.Fields.{spliced};
+
+use lines::Line;
 
 // The most that a field takes: ten digits, and its end.
 const MOST: usize = 11;
@@ -66,59 +69,63 @@ fn spell(out: &mut [u8], at: usize, count: usize, number: u32)
 }
 
 // A number of any length up to ten digits, where there is room.
-fn put_digits(out: &mut [u8], at: usize, number: u32, end: u8) -> usize
-    requires { at + 11 ≤ length out.old }
-    ensures { (page out.new result ≡ put_text (page out.old at) (number_text number ++ (end ∷ []))) × (result ≤ at + 11) }
+fn put_digits(line: &mut Line, number: u32, end: u8)
+    requires { line.old.at + 11 ≤ length line.old.buffer.now }
+    ensures { line.new ≡ with_text line.old (number_text number ++ (end ∷ [])) }
 {
     let count = places(number);
-    spell(out, at, count, number);
-    out[at + count] = end;
-    at + count + 1
+    spell(line.buffer, line.at, count, number);
+    line.buffer[line.at + count] = end;
+    line.at = line.at + count + 1;
 }
 
 // A number and the byte that ends it, where there is room. Most numbers have one digit.
-fn put_field_within(out: &mut [u8], at: usize, number: u32, end: u8) -> usize
-    requires { at + 11 ≤ length out.old }
-    ensures { (page out.new result ≡ put_text (page out.old at) (number_text number ++ (end ∷ []))) × (result ≤ at + 11) }
+fn put_field_within(line: &mut Line, number: u32, end: u8)
+    requires { line.old.at + 11 ≤ length line.old.buffer.now }
+    ensures { line.new ≡ with_text line.old (number_text number ++ (end ∷ [])) }
 {
     if number < 10 {
-        out[at] = 48 + number as u8;
-        out[at + 1] = end;
-        return at + 2;
+        line.buffer[line.at] = 48 + number as u8;
+        line.buffer[line.at + 1] = end;
+        line.at += 2;
+    } else {
+        put_digits(line, number, end);
     }
-    put_digits(out, at, number, end)
 }
 
 // Byte by byte, in any buffer.
-fn put_slowly(out: &mut [u8], at: usize, number: u64, end: u8) -> usize
-    ensures { page out.new result ≡ put_text (page out.old at) (number_text number ++ (end ∷ [])) }
+fn put_slowly(line: &mut Line, number: u64, end: u8)
+    ensures { line.new ≡ with_text line.old (number_text number ++ (end ∷ [])) }
 {
-    let place = lines::put_number(out, at, number);
-    lines::put_byte(out, place, end)
+    line.put_number(number);
+    line.put_byte(end);
+}
+
+// There is room for the longest field.
+fn roomy(line: &Line) -> bool
+    ensures { result ≡ true → line.now.at + 11 ≤ length line.now.buffer.now }
+{
+    line.at < line.buffer.len() && MOST <= line.buffer.len() - line.at
 }
 
 // A number and the byte that ends it, in any buffer.
-pub fn put_field(out: &mut [u8], at: usize, number: u32, end: u8) -> usize
-    ensures { page out.new result ≡ put_text (page out.old at) (number_text number ++ (end ∷ [])) }
+pub fn put_field(line: &mut Line, number: u32, end: u8)
+    ensures { line.new ≡ with_text line.old (number_text number ++ (end ∷ [])) }
 {
-    if at < out.len() {
-        if MOST <= out.len() - at {
-            return put_field_within(out, at, number, end);
-        }
+    if roomy(line) {
+        put_field_within(line, number, end);
+    } else {
+        put_slowly(line, number as u64, end);
     }
-    put_slowly(out, at, number as u64, end)
 }
 
 // A count, which may have more digits than the numbers of a call.
-pub fn put_count(out: &mut [u8], at: usize, count: u64, end: u8) -> usize
-    ensures { page out.new result ≡ put_text (page out.old at) (number_text count ++ (end ∷ [])) }
+pub fn put_count(line: &mut Line, count: u64, end: u8)
+    ensures { line.new ≡ with_text line.old (number_text count ++ (end ∷ [])) }
 {
-    if count < 4294967296 {
-        if at < out.len() {
-            if MOST <= out.len() - at {
-                return put_digits(out, at, count as u32, end);
-            }
-        }
+    if count < 4294967296 && roomy(line) {
+        put_digits(line, count as u32, end);
+    } else {
+        put_slowly(line, count, end);
     }
-    put_slowly(out, at, count, end)
 }
