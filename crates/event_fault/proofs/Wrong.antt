@@ -19,7 +19,10 @@ use Rattle.event_fault.specs.declared.Expected.TheVariants.{PolicyFlag}
 use Rattle.event_fault.specs.declared.Expected.{Expected}
 use Rattle.event_fault.specs.declared.Fault.TheVariants.{NoFault, Misses}
 use Rattle.event_fault.specs.declared.Fault.{Fault}
-use Rattle.lines.specs.Lines.{Page, ascii, put_byte, put_text, spelled, number_text}
+use Rattle.lines.specs.Line.{with_text}
+use Rattle.lines.specs.declared.Line.{Line}
+use Rattle.lines.proofs.Lines.{line_of}
+use Rattle.lines.specs.Lines.{ascii, put_byte, put_text, spelled, number_text}
 use Rattle.event_fault.specs.contracts.find as find
 use Rattle.event_fault.specs.contracts.put_fault as put_fault
 
@@ -46,21 +49,21 @@ module _ {M : Type 1} {𝓤 : Ura M} (𝓛 : Logic 𝓤) (memory : Memory → SP
   pub hard_2_let_through : find_shuts_out (0 ∷ 1 ∷ 2 ∷ 0 ∷ 0 ∷ 0 ∷ 0 ∷ 7 ∷ 0 ∷ 0 ∷ 0 ∷ 0 ∷ 0 ∷ 0 ∷ 0 ∷ 0 ∷ []) NoFault
   hard_2_let_through = fact_mono 𝓤 _ _ (λ h. let z : ◌≡◌ {A = ℕ} 0 1 = cc in omega arith)
 
-  -- put_fault: of a buffer, a place and a fault, the place answered, and what is left in the buffer
+  -- put_fault: of a line, by its buffer and its place and a fault, the place where the line goes on, and what is left in its buffer
   abbrev put_fault_shuts_out : List ℕ → ℕ → Fault → ℕ → List ℕ → Type 1
   put_fault_shuts_out out at fault r left =
-      (κs : Lfts 1) → NeverHolds ((put_fault.clauses 𝓛 memory run κs (lent_mut out, (at, (fault, tt)))
-      ).ensures tt r (lent_mut left, (at, (fault, tt))))
+      (κs : Lfts 2) → NeverHolds ((put_fault.clauses 𝓛 memory run κs (lent_mut (line_of out at), (fault, tt))
+      ).ensures tt tt (lent_mut (line_of left r), (fault, tt)))
 
   -- the byte stands before its value (docs/BENCH.md, "list")
   pub byte_told_as_its_value : (r : ℕ) → put_fault_shuts_out (replicate 21 0) 0 (Misses 1 2 PolicyFlag) r (ascii "byte 1 is 1, expected")
-  unfolding put_byte put_text spelled number_text
-  byte_told_as_its_value r κs = fact_mono 𝓤 _ _ (λ h. let z : ◌≡◌ {A = ℕ} 49 _ = ap (λ (p : Page). get_or p.bytes 10 0) h in omega arith)
+  unfolding with_text put_byte put_text spelled number_text
+  byte_told_as_its_value r κs = fact_mono 𝓤 _ _ (λ h. let z : ◌≡◌ {A = ℕ} 49 _ = ap (λ (l : Line). get_or l.buffer.now 10 0) h in omega arith)
 
   -- policy 1 is yes (01, "The trace")
   pub policy_told_the_wrong_way_round :
       (r : ℕ) →
       put_fault_shuts_out (replicate 43 0) 0 (Misses 1 2 PolicyFlag) r (ascii "byte 1 is 2, expected policy, 0 yes or 1 no")
-  unfolding put_byte put_text spelled number_text
+  unfolding with_text put_byte put_text spelled number_text
   policy_told_the_wrong_way_round r κs =
-      fact_mono 𝓤 _ _ (λ h. let z : ◌≡◌ {A = ℕ} 48 _ = ap (λ (p : Page). get_or p.bytes 30 0) h in omega arith)
+      fact_mono 𝓤 _ _ (λ h. let z : ◌≡◌ {A = ℕ} 48 _ = ap (λ (l : Line). get_or l.buffer.now 30 0) h in omega arith)

@@ -36,3 +36,7 @@ one_more l m n word i h e f =
     let s : i + 1 ≡ suc i = omega arith in
     and_then_byte l m n (take i word) (get_or word i 0) e f
     ∙ ap (with_text l) (sym (take-suc word i 0 h) ∙ ap (λ k. take k word) (sym s))
+
+-- a line by its buffer and its place; where the buffer stands says nothing here
+abbrev pub line_of : List ℕ → ℕ → Line
+line_of buffer at = record { buffer = record { ref_ptr = (0, 0); ghost_name = 0; now = buffer }; at = at }

@@ -4,7 +4,7 @@
 // anything of its caller.
 #![tactic(auto)]
 
-ghost use Rattle.std.specs.Prelude.{◌≡◌};
+ghost use Rattle.std.specs.Prelude.{◌≡◌, ◌++◌};
 ghost use Rattle.lines.specs.Lines.{number_text};
 ghost use Rattle.lines.specs.Line.{with_byte, with_text};
 
@@ -39,5 +39,13 @@ impl<'a> Line<'a> {
         let mut digits = [0u8; 20];
         let count = io::decimal(number, &mut digits);
         self.put_word(&digits[..count]);
+    }
+
+    // A word, and a number behind it.
+    pub fn put_numbered(&mut self, word: &[u8], number: u64)
+        ensures { self.new ≡ with_text self.old (word.now ++ number_text number) }
+    {
+        self.put_word(word);
+        self.put_number(number);
     }
 }
