@@ -29,6 +29,16 @@ and_then l m n a b e f = f ∙ (ap (λ k. with_text k b) e ∙ texts_put l a b)
 pub and_then_byte : (l m n : Line) (a : List ℕ) (b : ℕ) → m ≡ with_text l a → n ≡ with_byte m b → n ≡ with_text l (a ++ (b ∷ []))
 and_then_byte l m n a b e f = and_then l m n a (b ∷ []) e (f ∙ byte_put m b)
 
+-- the same, said of the page
+pub page_put : (l m : Line) (a : List ℕ) → m ≡ with_text l a → page_of m ≡ put_text (page_of l) a
+unfolding with_text
+page_put l m a e = ap page_of e
+
+-- and of the reference to the buffer
+pub reference_stays : (l m : Line) (a : List ℕ) → m ≡ with_text l a → m.buffer.ghost_name ≡ l.buffer.ghost_name
+unfolding with_text
+reference_stays l m a e = ap (λ (k : Line). k.buffer.ghost_name) e
+
 -- one byte more of a word
 pub one_more : (l m n : Line) (word : List ℕ) (i : ℕ) → i < length word → m ≡ with_text l (take i word) →
     n ≡ with_byte m (get_or word i 0) → n ≡ with_text l (take (i + 1) word)
