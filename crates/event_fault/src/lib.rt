@@ -3,11 +3,12 @@
 #![tactic(auto)]
 
 ghost use Rattle.std.specs.Prelude.{◌≡◌};
-ghost use Rattle.lines.specs.Lines.{page, put_text};
+ghost use Rattle.lines.specs.Line.{with_text};
 ghost use Rattle.event_fault.specs.Fault.{open_fault, connection_fault, connect_fault, calling_fault, called_fault, kind_fault, fault_at};
 ghost use Rattle.event_fault.specs.Words.{expected_text, byte_text, fault_text};
 
 use events::Node;
+use lines::Line;
 
 // What an octet is to say.
 #[derive(Clone, Copy)]
@@ -126,44 +127,32 @@ pub fn find(node: Node, octets: [u8; 16]) -> Fault
     )
 }
 
-fn put_expected(out: &mut [u8], at: usize, expected: Expected) -> usize
-    ensures { page out.new result ≡ put_text (page out.old at) (expected_text expected) }
+fn put_expected(line: &mut Line, expected: Expected)
+    ensures { line.new ≡ with_text line.old (expected_text expected) }
 {
     match expected {
-        Expected::SomeEvent => lines::put_word(out, at, b"an event, 0 to 9"),
-        Expected::NamedOrNot => lines::put_word(out, at, b"0 for default services or 1 for named"),
-        Expected::HardFlag => lines::put_word(out, at, b"hard, 0 or 1"),
-        Expected::SoftService => lines::put_word(out, at, b"soft, 0 to 2"),
-        Expected::PolicyFlag => lines::put_word(out, at, b"policy, 1 yes or 0 no"),
-        Expected::CausePresent => lines::put_word(out, at, b"cause present, 0 or 1"),
-        Expected::CrankbackFound => lines::put_word(out, at, b"crankback, 0 to 2"),
-        Expected::SmallConnection => lines::put_word(
-            out,
-            at,
-            b"0, since a connection is 0 to 65535",
-        ),
+        Expected::SomeEvent => line.put_word(b"an event, 0 to 9"),
+        Expected::NamedOrNot => line.put_word(b"0 for default services or 1 for named"),
+        Expected::HardFlag => line.put_word(b"hard, 0 or 1"),
+        Expected::SoftService => line.put_word(b"soft, 0 to 2"),
+        Expected::PolicyFlag => line.put_word(b"policy, 1 yes or 0 no"),
+        Expected::CausePresent => line.put_word(b"cause present, 0 or 1"),
+        Expected::CrankbackFound => line.put_word(b"crankback, 0 to 2"),
+        Expected::SmallConnection => line.put_word(b"0, since a connection is 0 to 65535"),
     }
 }
 
-fn put_octet(out: &mut [u8], at: usize, number: u64) -> usize
-    ensures { page out.new result ≡ put_text (page out.old at) (byte_text number) }
-{
-    let place = lines::put_word(out, at, b"byte ");
-    lines::put_number(out, place, number)
-}
-
 // Nothing where there is no fault.
-pub fn put_fault(out: &mut [u8], at: usize, fault: Fault) -> usize
-    ensures { page out.new result ≡ put_text (page out.old at) (fault_text fault) }
+pub fn put_fault(line: &mut Line, fault: Fault)
+    ensures { line.new ≡ with_text line.old (fault_text fault) }
 {
     match fault {
-        Fault::NoFault => at,
+        Fault::NoFault => {}
         Fault::Misses(octet, value, expected) => {
-            let told = put_octet(out, at, octet as u64);
-            let is = lines::put_word(out, told, b" is ");
-            let valued = lines::put_number(out, is, value as u64);
-            let then = lines::put_word(out, valued, b", expected ");
-            put_expected(out, then, expected)
+            line.put_numbered(b"byte ", u64::from(octet));
+            line.put_numbered(b" is ", u64::from(value));
+            line.put_word(b", expected ");
+            put_expected(line, expected);
         }
     }
 }

@@ -9,8 +9,6 @@ use lib.ListN.{length, take, drop, set, length-append, take-append-drop, length-
 use lib.Seq.{drop-cons, lt-length-set, get_or-set_same, drop-set-lt, take-set-le}
 use Rattle.io.specs.Digits.{hex_digit_ascii, last_digits, IsDigitCount}
 use Rattle.lines.specs.Lines.{page, put_text, spelled, number_text}
-use Rattle.lines.specs.Line.{page_of, turned_to, with_text}
-use Rattle.lines.specs.declared.Line.{Line}
 use Rattle.lines.proofs.Claims.{put_with_room}
 use Rattle.lines.proofs.Laws.{put_in, put_one, and_then, number_is}
 use Rattle.fields.specs.Fields.{spliced}
@@ -91,11 +89,6 @@ put_long xs o at n e k few room same is =
     let l : length (last_digits 10 k n) ≡ k = length_digits k n in
     let p : page o (at + k) ≡ put_text (page xs at) (last_digits 10 k n) = rw l at (put_spliced xs o at (last_digits 10 k n) (omega arith) is) in
     and_then _ _ _ _ _ (p ∙ ap (put_text (page xs at)) (number_is k n few)) (put_in o (at + k) e room ∙ sym (put_one (page o (at + k)) e))
-
--- the same as lines: what stood in the buffer is all that differs
-pub line_is : (l : Line) (bytes : List ℕ) (at : ℕ) (text : List ℕ) → page bytes at ≡ put_text (page_of l) text → turned_to l (page bytes at) ≡ with_text l text
-unfolding with_text
-line_is l bytes at text e = ap (turned_to l) e
 
 -- a number of one digit is its own digit
 one_digit : (n : ℕ) → n < 10 → number_text n ≡ (48 + n) ∷ []

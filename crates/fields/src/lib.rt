@@ -6,7 +6,7 @@
 
 ghost use Rattle.std.specs.Prelude.{true, ◌+◌, ◌≤◌, ◌≡◌, ◌++◌, ◌∷◌, [], length};
 ghost use Rattle.io.specs.Digits.{last_digits, IsDigitCount};
-ghost use Rattle.lines.specs.Lines.{number_text};
+ghost use Rattle.lines.specs.Lines.{page, put_text, number_text};
 ghost use Rattle.lines.specs.Line.{with_text};
 ghost use Rattle.fields.specs.Fields.{spliced};
 
@@ -69,31 +69,32 @@ fn spell(out: &mut [u8], at: usize, count: usize, number: u32)
 }
 
 // A number of any length up to ten digits, where there is room.
-fn put_digits(line: &mut Line, number: u32, end: u8)
-    requires { line.old.at + 11 ≤ length line.old.buffer.now }
-    ensures { line.new ≡ with_text line.old (number_text number ++ (end ∷ [])) }
+fn put_digits(out: &mut [u8], at: usize, number: u32, end: u8) -> usize
+    requires { at + 11 ≤ length out.old }
+    ensures { (page out.new result ≡ put_text (page out.old at) (number_text number ++ (end ∷ []))) × (result ≤ at + 11) }
 {
     let count = places(number);
-    spell(line.buffer, line.at, count, number);
-    line.buffer[line.at + count] = end;
-    line.at = line.at + count + 1;
+    spell(out, at, count, number);
+    out[at + count] = end;
+    at + count + 1
 }
 
 // A number and the byte that ends it, where there is room. Most numbers have one digit.
-fn put_field_within(line: &mut Line, number: u32, end: u8)
-    requires { line.old.at + 11 ≤ length line.old.buffer.now }
-    ensures { line.new ≡ with_text line.old (number_text number ++ (end ∷ [])) }
+fn put_field_within(out: &mut [u8], at: usize, number: u32, end: u8) -> usize
+    requires { at + 11 ≤ length out.old }
+    ensures { (page out.new result ≡ put_text (page out.old at) (number_text number ++ (end ∷ []))) × (result ≤ at + 11) }
 {
     if number < 10 {
-        line.buffer[line.at] = 48 + number as u8;
-        line.buffer[line.at + 1] = end;
-        line.at += 2;
-    } else {
-        put_digits(line, number, end);
+        out[at] = 48 + number as u8;
+        out[at + 1] = end;
+        return at + 2;
     }
+    put_digits(out, at, number, end)
 }
 
 // Byte by byte, in any buffer.
+#[cold]
+#[inline(never)]
 fn put_slowly(line: &mut Line, number: u64, end: u8)
     ensures { line.new ≡ with_text line.old (number_text number ++ (end ∷ [])) }
 {
@@ -105,7 +106,7 @@ fn put_slowly(line: &mut Line, number: u64, end: u8)
 fn roomy(line: &Line) -> bool
     ensures { result ≡ true → line.now.at + 11 ≤ length line.now.buffer.now }
 {
-    line.at < line.buffer.len() && MOST <= line.buffer.len() - line.at
+    MOST <= line.buffer.len().saturating_sub(line.at)
 }
 
 // A number and the byte that ends it, in any buffer.
@@ -113,7 +114,7 @@ pub fn put_field(line: &mut Line, number: u32, end: u8)
     ensures { line.new ≡ with_text line.old (number_text number ++ (end ∷ [])) }
 {
     if roomy(line) {
-        put_field_within(line, number, end);
+        line.at = put_field_within(line.buffer, line.at, number, end);
     } else {
         put_slowly(line, number as u64, end);
     }
@@ -124,7 +125,7 @@ pub fn put_count(line: &mut Line, count: u64, end: u8)
     ensures { line.new ≡ with_text line.old (number_text count ++ (end ∷ [])) }
 {
     if count < 4294967296 && roomy(line) {
-        put_digits(line, count as u32, end);
+        line.at = put_digits(line.buffer, line.at, count as u32, end);
     } else {
         put_slowly(line, count, end);
     }

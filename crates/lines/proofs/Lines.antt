@@ -5,7 +5,7 @@ use mathlib.Core.Path.{◌≡◌, refl, sym, ◌∙◌, ap}
 use mathlib.Core.List.{List, [], ◌∷◌, ◌++◌}
 use lib.ListN.{length, take, get_or}
 use lib.Seq.{take-suc}
-use Rattle.lines.specs.Lines.{put_text}
+use Rattle.lines.specs.Lines.{page, put_text}
 use Rattle.lines.specs.Line.{page_of, turned_to, with_byte, with_text}
 use Rattle.lines.specs.declared.Line.{Line}
 use Rattle.lines.proofs.Laws.{put_append}
@@ -38,6 +38,11 @@ page_put l m a e = ap page_of e
 pub reference_stays : (l m : Line) (a : List ℕ) → m ≡ with_text l a → m.buffer.ghost_name ≡ l.buffer.ghost_name
 unfolding with_text
 reference_stays l m a e = ap (λ (k : Line). k.buffer.ghost_name) e
+
+-- a line is turned to the page that a text leaves
+pub turned_by : (l : Line) (bytes : List ℕ) (at : ℕ) (a : List ℕ) → page bytes at ≡ put_text (page_of l) a → turned_to l (page bytes at) ≡ with_text l a
+unfolding with_text
+turned_by l bytes at a e = ap (turned_to l) e
 
 -- one byte more of a word
 pub one_more : (l m n : Line) (word : List ℕ) (i : ℕ) → i < length word → m ≡ with_text l (take i word) →
