@@ -149,8 +149,8 @@ pub fn put_fault(line: &mut Line, fault: Fault)
     match fault {
         Fault::NoFault => {}
         Fault::Misses(octet, value, expected) => {
-            line.put_numbered(b"byte ", u64::from(octet));
-            line.put_numbered(b" is ", u64::from(value));
+            line.put_numbered(b"byte ", octet as u64);
+            line.put_numbered(b" is ", value as u64);
             line.put_word(b", expected ");
             put_expected(line, expected);
         }

@@ -70,7 +70,7 @@ fn put_switchover(line: &mut Line, code: u8)
     match code {
         0 => line.put_word(b" immediate"),
         1 => line.put_word(b" clearing"),
-        _ => put_then(line, u64::from(code)),
+        _ => put_then(line, code as u64),
     }
 }
 
@@ -81,7 +81,7 @@ fn put_cause(line: &mut Line, cause: ReceivedCause)
         ReceivedCause::NoCause => {}
         ReceivedCause::WithCause(given) => {
             line.put_word(b" cause");
-            put_then(line, u64::from(given.number));
+            put_then(line, given.number as u64);
         }
     }
 }
@@ -144,7 +144,7 @@ fn put_name(line: &mut Line, node: Node, act: Act)
 fn put_connect(line: &mut Line, connection: u16, policy: bool)
     ensures { line.new ≡ with_text line.old (values_text (Connect connection policy)) }
 {
-    put_then(line, u64::from(connection));
+    put_then(line, connection as u64);
     put_policy(line, policy);
 }
 
@@ -152,13 +152,13 @@ fn put_setup(line: &mut Line, switchover: Switchover, number: u32)
     ensures { line.new ≡ with_text line.old (values_text (Setup switchover number)) }
 {
     put_switchover(line, switchover.code);
-    put_then(line, u64::from(number));
+    put_then(line, number as u64);
 }
 
 fn put_called(line: &mut Line, connection: u16, cause: ReceivedCause, back: Crankback)
     ensures { line.new ≡ with_text line.old (values_text (FromDomain connection cause back)) }
 {
-    put_then(line, u64::from(connection));
+    put_then(line, connection as u64);
     put_cause(line, cause);
     put_crankback(line, back);
 }
@@ -197,6 +197,6 @@ pub fn put_event(line: &mut Line, node: Node, key: u32, act: Act)
     ensures { line.new ≡ with_text line.old (event_text node key act) }
 {
     put_name(line, node, act);
-    put_then(line, u64::from(key));
+    put_then(line, key as u64);
     put_brought(line, act);
 }

@@ -37,7 +37,7 @@ fn stands(before: bool, kind: Kind) -> bool
 fn put_kind(line: &mut Line, kind: Kind, connection: u16)
     ensures { line.new ≡ with_text line.old (kind_text kind connection) }
 {
-    let number = u64::from(connection);
+    let number = connection as u64;
     match kind {
         Kind::NoSignal => {}
         Kind::TimerStart => line.put_word(b"timer start"),
@@ -59,8 +59,8 @@ fn put_cause(line: &mut Line, cause: SentCause)
 {
     match cause {
         SentCause::Absent => {}
-        SentCause::Numbered(given) => line.put_numbered(b" #", u64::from(given.number)),
-        SentCause::AsReceived(given) => line.put_numbered(b" =", u64::from(given.number)),
+        SentCause::Numbered(given) => line.put_numbered(b" #", given.number as u64),
+        SentCause::AsReceived(given) => line.put_numbered(b" =", given.number as u64),
     }
 }
 

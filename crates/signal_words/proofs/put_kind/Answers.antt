@@ -6,4 +6,4 @@ pub returns-in-NoSignal : goal.returns-in-NoSignal
 returns-in-NoSignal c = rw c.in-NoSignal.is (nothing_put _)
 
 pub returns-in-IncumbentRelease : goal.returns-in-IncumbentRelease
-returns-in-IncumbentRelease c = rw (c.in-IncumbentRelease.is, ← c.from-number.ensures) c.put_numbered-in-IncumbentRelease.ensures
+returns-in-IncumbentRelease c = rw c.in-IncumbentRelease.is c.put_numbered-in-IncumbentRelease.ensures
