@@ -16,7 +16,10 @@ use types.Logic.{Logic}
 use prog.Memory.{Memory}
 use prog.Routine.{Routine}
 use Rattle.call.specs.declared.Call.{Call}
-use Rattle.lines.specs.Lines.{Page, ascii, put_byte, put_text, spelled, number_text}
+use Rattle.lines.specs.Line.{with_text}
+use Rattle.lines.specs.declared.Line.{Line}
+use Rattle.lines.proofs.Lines.{line_of}
+use Rattle.lines.specs.Lines.{ascii, put_byte, put_text, spelled, number_text}
 use Rattle.rows.specs.declared.State.TheVariants.{Awaiting}
 use Rattle.signal.specs.declared.Soft.TheVariants.{Symmetric}
 use Rattle.call_words.specs.contracts.put_call as put_call
@@ -34,18 +37,18 @@ module _ {M : Type 1} {𝓤 : Ura M} (𝓛 : Logic 𝓤) (memory : Memory → SP
   abbrev NeverHolds : SProp 𝓤 → Type 1
   NeverHolds says = ent 𝓤 says (fact 𝓤 ⊥)
 
-  -- put_call: of a buffer, a place and a record, the place answered, and what is left in the buffer
+  -- put_call: of a line, by its buffer and its place and a record, the place where the line goes on, and what is left in its buffer
   abbrev put_call_shuts_out : List ℕ → ℕ → Call → ℕ → List ℕ → Type 1
   put_call_shuts_out out at call r left =
-      (κs : Lfts 1) → NeverHolds ((put_call.clauses 𝓛 memory run κs (lent_mut out, (at, (call, tt)))
-      ).ensures tt r (lent_mut left, (at, (call, tt))))
+      (κs : Lfts 2) → NeverHolds ((put_call.clauses 𝓛 memory run κs (lent_mut (line_of out at), (call, tt))
+      ).ensures tt tt (lent_mut (line_of left r), (call, tt)))
 
   -- the incumbent stands before the rerouting connection
   pub connections_exchanged : (r : ℕ) → put_call_shuts_out (replicate 15 0) 0 held r (ascii "7 1 2 7 5 3 6 4")
-  unfolding put_byte put_text spelled number_text
-  connections_exchanged r κs = fact_mono 𝓤 _ _ (λ h. let z : ◌≡◌ {A = ℕ} 53 _ = ap (λ (p : Page). get_or p.bytes 8 0) h in omega arith)
+  unfolding with_text put_byte put_text spelled number_text
+  connections_exchanged r κs = fact_mono 𝓤 _ _ (λ h. let z : ◌≡◌ {A = ℕ} 53 _ = ap (λ (l : Line). get_or l.buffer.now 8 0) h in omega arith)
 
   -- the last number is the one that the call has given
   pub remote_told_for_last : (r : ℕ) → put_call_shuts_out (replicate 15 0) 0 held r (ascii "7 1 2 7 3 5 4 4")
-  unfolding put_byte put_text spelled number_text
-  remote_told_for_last r κs = fact_mono 𝓤 _ _ (λ h. let z : ◌≡◌ {A = ℕ} 52 _ = ap (λ (p : Page). get_or p.bytes 12 0) h in omega arith)
+  unfolding with_text put_byte put_text spelled number_text
+  remote_told_for_last r κs = fact_mono 𝓤 _ _ (λ h. let z : ◌≡◌ {A = ℕ} 52 _ = ap (λ (l : Line). get_or l.buffer.now 12 0) h in omega arith)

@@ -13,13 +13,13 @@ use Rattle.event_record.specs.Record.{octet, kind_at}
 use Rattle.event_record.specs.declared.Request.{Request}
 use Rattle.event_record.specs.declared.Request.TheVariants.{Bad}
 use Rattle.event_fault.specs.Claims as claim
-use Rattle.event_fault.specs.Fault.{fault_at}
+use Rattle.event_fault.specs.Fault.{misses, fault_at}
 use Rattle.event_fault.specs.declared.Fault.{Fault}
-use Rattle.event_fault.specs.declared.Fault.TheVariants.{NoFault, Misses}
+use Rattle.std.specs.Prelude.{Option, Some, None}
 use Rattle.event_fault.proofs.Exactly.{Alike, both_bad, both_sound, kind_alike}
 use Rattle.event_fault.proofs.First.{Names, Tells, below, kind_tells}
 
-exactly : (r : Request) (f : Fault) → Alike r f → (r ≡ Bad → f ≡ NoFault → ⊥) × ((f ≡ NoFault → ⊥) → r ≡ Bad)
+exactly : (r : Request) (f : Option Fault) → Alike r f → (r ≡ Bad → f ≡ None → ⊥) × ((f ≡ None → ⊥) → r ≡ Bad)
 exactly r f both_bad = (λ e none. let z : ◌≡◌ {A = ℕ} 0 1 = cc in omega arith, λ h. refl)
 exactly r f both_sound = (λ e none. let z : ◌≡◌ {A = ℕ} 0 1 = cc in omega arith, λ h. absurd (h refl))
 
@@ -51,6 +51,6 @@ all_are_named node os octets e = subst (Tells (octet os) (kind_at node (octet os
 
 pub the_first : claim.TheFirst
 the_first node os octets byte value expected e =
-    let told : Tells (octet os) (kind_at node (octet os 0)) (Misses byte value expected) =
+    let told : Tells (octet os) (kind_at node (octet os 0)) (misses byte value expected) =
     subst (Tells (octet os) (kind_at node (octet os 0))) e (tells node os octets) in
     (told.0, (told.1.0, below _ byte told.1.1))

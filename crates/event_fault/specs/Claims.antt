@@ -1,19 +1,18 @@
 -- What is claimed of a fault: that it is found exactly in a bad record, and that the byte told is the first that is not named. Proofs:
 -- proofs/Claims.antt. Assumes nothing.
-use Rattle.std.specs.Prelude.{ℕ, ◌≤◌, ◌<◌, Bool, ◌||◌, cond, ◌↔◌, ◌≡◌, List, eqb}
+use Rattle.std.specs.Prelude.{ℕ, ◌≤◌, ◌<◌, Bool, ◌||◌, cond, ◌↔◌, ◌≡◌, List, eqb, None}
 use Rattle.events.specs.declared.Node.{Node}
 use Rattle.event_record.specs.Record.{octet, kind_at, decoded_at}
 use Rattle.event_record.specs.declared.Request.TheVariants.{Bad}
-use Rattle.event_fault.specs.Fault.{fault_at}
+use Rattle.event_fault.specs.Fault.{misses, fault_at}
 use Rattle.event_fault.specs.declared.Expected.{Expected}
-use Rattle.event_fault.specs.declared.Fault.TheVariants.{NoFault, Misses}
 
 abbrev pub Octets : List ℕ → Type 0
 Octets os = (i : ℕ) → octet os i < 256
 
 -- A fault is found exactly where the record is bad.
 abbrev pub ExactlyTheBad : Type 0
-ExactlyTheBad = (node : Node) (os : List ℕ) → Octets os → ((decoded_at node os).request ≡ Bad) ↔ (fault_at node os ≡ NoFault → ⊥)
+ExactlyTheBad = (node : Node) (os : List ℕ) → Octets os → ((decoded_at node os).request ≡ Bad) ↔ (fault_at node os ≡ None → ⊥)
 
 -- The highest value that is named for each byte (01, "The trace"); 255 where the byte is not read, or may have any value. Of a record: its
 -- kind is byte 0, and byte 1 of an opening tells whether bytes 2 and 3 are read
@@ -45,10 +44,10 @@ Named node os i = octet os i ≤ highest (kind_at node (octet os 0)) (octet os 1
 
 -- Where no fault is found, every byte is named.
 abbrev pub AllAreNamed : Type 0
-AllAreNamed = (node : Node) (os : List ℕ) → Octets os → fault_at node os ≡ NoFault → (i : ℕ) → Named node os i
+AllAreNamed = (node : Node) (os : List ℕ) → Octets os → fault_at node os ≡ None → (i : ℕ) → Named node os i
 
 -- The byte that a fault tells has the value told, which is not named, and every byte before it is named.
 abbrev pub TheFirst : Type 0
 TheFirst =
-    (node : Node) (os : List ℕ) → Octets os → (byte value : ℕ) (expected : Expected) → fault_at node os ≡ Misses byte value expected →
+    (node : Node) (os : List ℕ) → Octets os → (byte value : ℕ) (expected : Expected) → fault_at node os ≡ misses byte value expected →
     (octet os byte ≡ value) × ((Named node os byte → ⊥) × ((i : ℕ) → i < byte → Named node os i))

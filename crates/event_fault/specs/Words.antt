@@ -1,11 +1,10 @@
 -- A fault in words (docs/BENCH.md, "list"). Assumes nothing.
-use Rattle.std.specs.Prelude.{ℕ, List, [], ◌++◌}
+use Rattle.std.specs.Prelude.{ℕ, List, [], ◌++◌, Option, Some, None}
 use Rattle.lines.specs.Lines.{ascii, number_text}
 use Rattle.event_fault.specs.declared.Expected.{Expected}
 use Rattle.event_fault.specs.declared.Expected.TheVariants.{SomeEvent, NamedOrNot, HardFlag, SoftService, PolicyFlag, CausePresent}
 use Rattle.event_fault.specs.declared.Expected.TheVariants.{CrankbackFound, SmallConnection}
 use Rattle.event_fault.specs.declared.Fault.{Fault}
-use Rattle.event_fault.specs.declared.Fault.TheVariants.{NoFault, Misses}
 
 abbrev pub expected_text : Expected → List ℕ
 expected_text SomeEvent = ascii "an event, 0 to 9"
@@ -20,7 +19,7 @@ expected_text SmallConnection = ascii "0, since a connection is 0 to 65535"
 abbrev pub byte_text : ℕ → List ℕ
 byte_text byte = ascii "byte " ++ number_text byte
 
-abbrev pub fault_text : Fault → List ℕ
-fault_text NoFault = []
-fault_text (Misses byte value expected) =
-    byte_text byte ++ (ascii " is " ++ (number_text value ++ (ascii ", expected " ++ expected_text expected)))
+abbrev pub fault_text : Option Fault → List ℕ
+fault_text None = []
+fault_text (Some f) =
+    byte_text f.octet ++ (ascii " is " ++ (number_text f.value ++ (ascii ", expected " ++ expected_text f.expected)))

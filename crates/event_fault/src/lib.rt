@@ -2,12 +2,13 @@
 // and that in words (docs/BENCH.md, "list").
 #![tactic(auto)]
 
-ghost use Rattle.std.specs.Prelude.{◌≡◌};
-ghost use Rattle.lines.specs.Lines.{page, put_text};
-ghost use Rattle.event_fault.specs.Fault.{open_fault, connection_fault, connect_fault, calling_fault, called_fault, kind_fault, fault_at};
+ghost use Rattle.std.specs.Prelude.{◌≡◌, cond, ltb, None};
+ghost use Rattle.lines.specs.Line.{with_text};
+ghost use Rattle.event_fault.specs.Fault.{misses, open_fault, connection_fault, connect_fault, calling_fault, called_fault, kind_fault, fault_at};
 ghost use Rattle.event_fault.specs.Words.{expected_text, byte_text, fault_text};
 
 use events::Node;
+use lines::Line;
 
 // What an octet is to say.
 #[derive(Clone, Copy)]
@@ -22,98 +23,78 @@ pub enum Expected {
     SmallConnection,
 }
 
-// An octet, its value, and what was expected there.
+// An octet that is not named: its place, its value, and what was expected there.
 #[derive(Clone, Copy)]
-pub enum Fault {
-    NoFault,
-    Misses(u8, u8, Expected),
+pub struct Fault {
+    pub octet: u8,
+    pub value: u8,
+    pub expected: Expected,
 }
 
-fn open(named: u8, hard: u8, soft: u8) -> Fault
+// A fault where the value of an octet is above the highest that is named.
+fn above(highest: u8, octet: u8, value: u8, expected: Expected) -> Option<Fault>
+    ensures { result ≡ cond (ltb highest value) (misses octet value expected) None }
+{
+    if highest < value {
+        return Some(Fault {
+            octet,
+            value,
+            expected,
+        });
+    }
+    None
+}
+
+fn open(named: u8, hard: u8, soft: u8) -> Option<Fault>
     ensures { result ≡ open_fault named hard soft }
 {
     if named == 0 {
-        return Fault::NoFault;
+        return None;
     }
-    if 1 < named {
-        return Fault::Misses(1, named, Expected::NamedOrNot);
-    }
-    if 1 < hard {
-        return Fault::Misses(2, hard, Expected::HardFlag);
-    }
-    if 2 < soft {
-        return Fault::Misses(3, soft, Expected::SoftService);
-    }
-    Fault::NoFault
+    above(1, 1, named, Expected::NamedOrNot)
+        .or(above(1, 2, hard, Expected::HardFlag))
+        .or(above(2, 3, soft, Expected::SoftService))
 }
 
-fn connection(highest: u8, high: u8) -> Fault
+fn connection(highest: u8, high: u8) -> Option<Fault>
     ensures { result ≡ connection_fault highest high }
 {
-    if 0 < highest {
-        return Fault::Misses(8, highest, Expected::SmallConnection);
-    }
-    if 0 < high {
-        return Fault::Misses(9, high, Expected::SmallConnection);
-    }
-    Fault::NoFault
+    above(0, 8, highest, Expected::SmallConnection).or(above(0, 9, high, Expected::SmallConnection))
 }
 
-fn connect(policy: u8, highest: u8, high: u8) -> Fault
+fn connect(policy: u8, highest: u8, high: u8) -> Option<Fault>
     ensures { result ≡ connect_fault policy highest high }
 {
-    if 1 < policy {
-        return Fault::Misses(1, policy, Expected::PolicyFlag);
-    }
-    connection(highest, high)
+    above(1, 1, policy, Expected::PolicyFlag).or(connection(highest, high))
 }
 
-fn calling(present: u8, back: u8) -> Fault
+fn calling(present: u8, back: u8) -> Option<Fault>
     ensures { result ≡ calling_fault present back }
 {
-    if 1 < present {
-        return Fault::Misses(1, present, Expected::CausePresent);
-    }
-    if 2 < back {
-        return Fault::Misses(3, back, Expected::CrankbackFound);
-    }
-    Fault::NoFault
+    above(1, 1, present, Expected::CausePresent).or(above(2, 3, back, Expected::CrankbackFound))
 }
 
-fn called(present: u8, back: u8, highest: u8, high: u8) -> Fault
+fn called(present: u8, back: u8, highest: u8, high: u8) -> Option<Fault>
     ensures { result ≡ called_fault present back highest high }
 {
-    if 1 < present {
-        return Fault::Misses(1, present, Expected::CausePresent);
-    }
-    if 2 < back {
-        return Fault::Misses(3, back, Expected::CrankbackFound);
-    }
-    connection(highest, high)
+    above(1, 1, present, Expected::CausePresent)
+        .or(above(2, 3, back, Expected::CrankbackFound))
+        .or(connection(highest, high))
 }
 
-fn of_kind(kind: u8, first: u8, second: u8, third: u8, highest: u8, high: u8) -> Fault
+fn of_kind(kind: u8, first: u8, second: u8, third: u8, highest: u8, high: u8) -> Option<Fault>
     ensures { result ≡ kind_fault kind first second third highest high }
 {
-    if 9 < kind {
-        return Fault::Misses(0, kind, Expected::SomeEvent);
+    match kind {
+        0 => open(first, second, third),
+        4 => connect(first, highest, high),
+        6 => calling(first, third),
+        7 => called(first, third, highest, high),
+        _ => above(9, 0, kind, Expected::SomeEvent),
     }
-    if kind == 0 {
-        return open(first, second, third);
-    }
-    if kind == 4 {
-        return connect(first, highest, high);
-    }
-    if kind == 6 {
-        return calling(first, third);
-    }
-    if kind == 7 {
-        return called(first, third, highest, high);
-    }
-    Fault::NoFault
 }
 
-pub fn find(node: Node, octets: [u8; 16]) -> Fault
+pub fn find(node: Node, octets: [u8; 16]) -> Option<Fault>
     ensures { result ≡ fault_at node octets }
 {
     of_kind(
@@ -126,44 +107,29 @@ pub fn find(node: Node, octets: [u8; 16]) -> Fault
     )
 }
 
-fn put_expected(out: &mut [u8], at: usize, expected: Expected) -> usize
-    ensures { page out.new result ≡ put_text (page out.old at) (expected_text expected) }
+fn put_expected(line: &mut Line, expected: Expected)
+    ensures { line.new ≡ with_text line.old (expected_text expected) }
 {
     match expected {
-        Expected::SomeEvent => lines::put_word(out, at, b"an event, 0 to 9"),
-        Expected::NamedOrNot => lines::put_word(out, at, b"0 for default services or 1 for named"),
-        Expected::HardFlag => lines::put_word(out, at, b"hard, 0 or 1"),
-        Expected::SoftService => lines::put_word(out, at, b"soft, 0 to 2"),
-        Expected::PolicyFlag => lines::put_word(out, at, b"policy, 1 yes or 0 no"),
-        Expected::CausePresent => lines::put_word(out, at, b"cause present, 0 or 1"),
-        Expected::CrankbackFound => lines::put_word(out, at, b"crankback, 0 to 2"),
-        Expected::SmallConnection => lines::put_word(
-            out,
-            at,
-            b"0, since a connection is 0 to 65535",
-        ),
+        Expected::SomeEvent => line.put_word(b"an event, 0 to 9"),
+        Expected::NamedOrNot => line.put_word(b"0 for default services or 1 for named"),
+        Expected::HardFlag => line.put_word(b"hard, 0 or 1"),
+        Expected::SoftService => line.put_word(b"soft, 0 to 2"),
+        Expected::PolicyFlag => line.put_word(b"policy, 1 yes or 0 no"),
+        Expected::CausePresent => line.put_word(b"cause present, 0 or 1"),
+        Expected::CrankbackFound => line.put_word(b"crankback, 0 to 2"),
+        Expected::SmallConnection => line.put_word(b"0, since a connection is 0 to 65535"),
     }
 }
 
-fn put_octet(out: &mut [u8], at: usize, number: u64) -> usize
-    ensures { page out.new result ≡ put_text (page out.old at) (byte_text number) }
-{
-    let place = lines::put_word(out, at, b"byte ");
-    lines::put_number(out, place, number)
-}
-
 // Nothing where there is no fault.
-pub fn put_fault(out: &mut [u8], at: usize, fault: Fault) -> usize
-    ensures { page out.new result ≡ put_text (page out.old at) (fault_text fault) }
+pub fn put_fault(line: &mut Line, fault: Option<Fault>)
+    ensures { line.new ≡ with_text line.old (fault_text fault) }
 {
-    match fault {
-        Fault::NoFault => at,
-        Fault::Misses(octet, value, expected) => {
-            let told = put_octet(out, at, octet as u64);
-            let is = lines::put_word(out, told, b" is ");
-            let valued = lines::put_number(out, is, value as u64);
-            let then = lines::put_word(out, valued, b", expected ");
-            put_expected(out, then, expected)
-        }
+    if let Some(fault) = fault {
+        line.put_numbered(b"byte ", fault.octet as u64);
+        line.put_numbered(b" is ", fault.value as u64);
+        line.put_word(b", expected ");
+        put_expected(line, fault.expected);
     }
 }

@@ -20,7 +20,10 @@ use Rattle.events.specs.declared.Act.{Act}
 use Rattle.events.specs.declared.Node.TheVariants.{Source}
 use Rattle.events.specs.declared.Event.{Event}
 use Rattle.events.specs.declared.Event.TheVariants.{Connect, Setup}
-use Rattle.lines.specs.Lines.{Page, ascii, put_byte, put_text, spelled, number_text}
+use Rattle.lines.specs.Line.{with_text}
+use Rattle.lines.specs.declared.Line.{Line}
+use Rattle.lines.proofs.Lines.{line_of}
+use Rattle.lines.specs.Lines.{ascii, put_byte, put_text, spelled, number_text}
 use Rattle.event_words.specs.contracts.put_event as put_event
 use Rattle.event_words.specs.contracts.put_keyless as put_keyless
 
@@ -33,37 +36,37 @@ module _ {M : Type 1} {𝓤 : Ura M} (𝓛 : Logic 𝓤) (memory : Memory → SP
   abbrev NeverHolds : SProp 𝓤 → Type 1
   NeverHolds says = ent 𝓤 says (fact 𝓤 ⊥)
 
-  -- put_event: of a buffer, a place, a key and what is done with it, the place answered, and what is left in the buffer
+  -- put_event: of a line, by its buffer and its place, a key and what is done with it, the place where the line goes on, and what is left in its buffer
   abbrev put_event_shuts_out : List ℕ → ℕ → ℕ → Act → ℕ → List ℕ → Type 1
   put_event_shuts_out out at key act r left =
-      (κs : Lfts 1) → NeverHolds ((put_event.clauses 𝓛 memory run κs (lent_mut out, (at, (Source, (key, (act, tt)))))
-      ).ensures tt r (lent_mut left, (at, (Source, (key, (act, tt))))))
+      (κs : Lfts 2) → NeverHolds ((put_event.clauses 𝓛 memory run κs (lent_mut (line_of out at), (Source, (key, (act, tt))))
+      ).ensures tt tt (lent_mut (line_of left r), (Source, (key, (act, tt)))))
 
   -- the switchover code 0 is immediate, and 1 clearing (docs/BENCH.md, "script")
   pub code_0_told_as_clearing :
       (r : ℕ) →
       put_event_shuts_out (replicate 18 0) 0 7 (Meets (Setup (record { code = 0 }) 3)) r (ascii "setup 7 clearing 3")
-  unfolding put_byte put_text spelled number_text
-  code_0_told_as_clearing r κs = fact_mono 𝓤 _ _ (λ h. let z : ◌≡◌ {A = ℕ} 99 _ = ap (λ (p : Page). get_or p.bytes 8 0) h in omega arith)
+  unfolding with_text put_byte put_text spelled number_text
+  code_0_told_as_clearing r κs = fact_mono 𝓤 _ _ (λ h. let z : ◌≡◌ {A = ℕ} 99 _ = ap (λ (l : Line). get_or l.buffer.now 8 0) h in omega arith)
 
   -- policy 1 is yes (01, "The trace")
   pub policy_yes_told_as_no : (r : ℕ) → put_event_shuts_out (replicate 14 0) 0 7 (Meets (Connect 5 true)) r (ascii "connect 7 5 no")
-  unfolding put_byte put_text spelled number_text
-  policy_yes_told_as_no r κs = fact_mono 𝓤 _ _ (λ h. let z : ◌≡◌ {A = ℕ} 110 _ = ap (λ (p : Page). get_or p.bytes 12 0) h in omega arith)
+  unfolding with_text put_byte put_text spelled number_text
+  policy_yes_told_as_no r κs = fact_mono 𝓤 _ _ (λ h. let z : ◌≡◌ {A = ℕ} 110 _ = ap (λ (l : Line). get_or l.buffer.now 12 0) h in omega arith)
 
-  -- put_keyless: of a buffer, a place and an event, the place answered, and what is left in the buffer
+  -- put_keyless: of a line, by its buffer and its place and an event, the place where the line goes on, and what is left in its buffer
   abbrev put_keyless_shuts_out : List ℕ → ℕ → Event → ℕ → List ℕ → Type 1
   put_keyless_shuts_out out at event r left =
-      (κs : Lfts 1) → NeverHolds ((put_keyless.clauses 𝓛 memory run κs (lent_mut out, (at, (Source, (event, tt))))
-      ).ensures tt r (lent_mut left, (at, (Source, (event, tt)))))
+      (κs : Lfts 2) → NeverHolds ((put_keyless.clauses 𝓛 memory run κs (lent_mut (line_of out at), (Source, (event, tt)))
+      ).ensures tt tt (lent_mut (line_of left r), (Source, (event, tt))))
 
   -- no key is told
   pub key_0_told_of_none : (r : ℕ) → put_keyless_shuts_out (replicate 17 0) 0 (Connect 5 true) r (ascii "connect 0 5 yes")
-  unfolding put_byte put_text spelled number_text
-  key_0_told_of_none r κs = fact_mono 𝓤 _ _ (λ h. let z : ◌≡◌ {A = ℕ} 48 _ = ap (λ (p : Page). get_or p.bytes 8 0) h in omega arith)
+  unfolding with_text put_byte put_text spelled number_text
+  key_0_told_of_none r κs = fact_mono 𝓤 _ _ (λ h. let z : ◌≡◌ {A = ℕ} 48 _ = ap (λ (l : Line). get_or l.buffer.now 8 0) h in omega arith)
 
   -- the connection stands before the policy (docs/CELLS.md)
   pub policy_told_before_the_connection : (r : ℕ) → put_keyless_shuts_out (replicate 13 0) 0 (Connect 5 true) r (ascii "connect yes 5")
-  unfolding put_byte put_text spelled number_text
+  unfolding with_text put_byte put_text spelled number_text
   policy_told_before_the_connection r κs =
-      fact_mono 𝓤 _ _ (λ h. let z : ◌≡◌ {A = ℕ} 121 _ = ap (λ (p : Page). get_or p.bytes 8 0) h in omega arith)
+      fact_mono 𝓤 _ _ (λ h. let z : ◌≡◌ {A = ℕ} 121 _ = ap (λ (l : Line). get_or l.buffer.now 8 0) h in omega arith)

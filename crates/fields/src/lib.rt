@@ -1,13 +1,16 @@
-// Numbers in decimal, each with the byte that ends it, put into a lent buffer at speed.
+// Numbers in decimal, each with the byte that ends it, put at the end of a line at speed.
 //
 // What is put is what crates/lines puts, and the contract says it in the same words. Where there is room for the longest number its digits
 // are stored at their places, the last first; near the end of the buffer they go byte by byte.
 #![tactic(auto)]
 
-ghost use Rattle.std.specs.Prelude.{◌+◌, ◌≤◌, ◌≡◌, ◌++◌, ◌∷◌, [], length};
+ghost use Rattle.std.specs.Prelude.{true, ◌+◌, ◌≤◌, ◌≡◌, ◌++◌, ◌∷◌, [], length};
 ghost use Rattle.io.specs.Digits.{last_digits, IsDigitCount};
 ghost use Rattle.lines.specs.Lines.{page, put_text, number_text};
+ghost use Rattle.lines.specs.Line.{with_text};
 ghost use Rattle.fields.specs.Fields.{spliced};
+
+use lines::Line;
 
 // The most that a field takes: ten digits, and its end.
 const MOST: usize = 11;
@@ -90,35 +93,40 @@ fn put_field_within(out: &mut [u8], at: usize, number: u32, end: u8) -> usize
 }
 
 // Byte by byte, in any buffer.
-fn put_slowly(out: &mut [u8], at: usize, number: u64, end: u8) -> usize
-    ensures { page out.new result ≡ put_text (page out.old at) (number_text number ++ (end ∷ [])) }
+#[cold]
+#[inline(never)]
+fn put_slowly(line: &mut Line, number: u64, end: u8)
+    ensures { line.new ≡ with_text line.old (number_text number ++ (end ∷ [])) }
 {
-    let place = lines::put_number(out, at, number);
-    lines::put_byte(out, place, end)
+    line.put_number(number);
+    line.put_byte(end);
+}
+
+// There is room for the longest field.
+fn roomy(line: &Line) -> bool
+    ensures { result ≡ true → line.now.at + 11 ≤ length line.now.buffer.now }
+{
+    MOST <= line.buffer.len().saturating_sub(line.at)
 }
 
 // A number and the byte that ends it, in any buffer.
-pub fn put_field(out: &mut [u8], at: usize, number: u32, end: u8) -> usize
-    ensures { page out.new result ≡ put_text (page out.old at) (number_text number ++ (end ∷ [])) }
+pub fn put_field(line: &mut Line, number: u32, end: u8)
+    ensures { line.new ≡ with_text line.old (number_text number ++ (end ∷ [])) }
 {
-    if at < out.len() {
-        if MOST <= out.len() - at {
-            return put_field_within(out, at, number, end);
-        }
+    if roomy(line) {
+        line.at = put_field_within(line.buffer, line.at, number, end);
+    } else {
+        put_slowly(line, number as u64, end);
     }
-    put_slowly(out, at, number as u64, end)
 }
 
 // A count, which may have more digits than the numbers of a call.
-pub fn put_count(out: &mut [u8], at: usize, count: u64, end: u8) -> usize
-    ensures { page out.new result ≡ put_text (page out.old at) (number_text count ++ (end ∷ [])) }
+pub fn put_count(line: &mut Line, count: u64, end: u8)
+    ensures { line.new ≡ with_text line.old (number_text count ++ (end ∷ [])) }
 {
-    if count < 4294967296 {
-        if at < out.len() {
-            if MOST <= out.len() - at {
-                return put_digits(out, at, count as u32, end);
-            }
-        }
+    if count < 4294967296 && roomy(line) {
+        line.at = put_digits(line.buffer, line.at, count as u32, end);
+    } else {
+        put_slowly(line, count, end);
     }
-    put_slowly(out, at, count, end)
 }

@@ -1,39 +1,51 @@
 // Lines for people, built in a buffer that the caller lends.
 //
-// A function that puts something takes the place to begin at, and answers the place behind it. Past the end nothing is stored and the place
-// stays, so that no function asks anything of its caller.
+// A line is the buffer and the place where its next byte goes. Past the end nothing is stored and the place stays, so that no function asks
+// anything of its caller.
 #![tactic(auto)]
 
-ghost use Rattle.std.specs.Prelude.{◌≡◌};
-ghost use Rattle.lines.specs.Lines.{page, put_byte, put_text, number_text};
+ghost use Rattle.std.specs.Prelude.{◌≡◌, ◌++◌};
+ghost use Rattle.lines.specs.Lines.{number_text};
+ghost use Rattle.lines.specs.Line.{with_byte, with_text};
 
-pub fn put_byte(out: &mut [u8], at: usize, byte: u8) -> usize
-    ensures { page out.new result ≡ put_byte (page out.old at) byte }
-{
-    if at < out.len() {
-        out[at] = byte;
-        return at + 1;
-    }
-    at
+#[derive(Drop)]
+pub struct Line<'a> {
+    pub buffer: &'a mut [u8],
+    pub at: usize,
 }
 
-pub fn put_word(out: &mut [u8], at: usize, word: &[u8]) -> usize
-    ensures { page out.new result ≡ put_text (page out.old at) word.now }
-{
-    let mut place = at;
-    let mut index: usize = 0;
-    while index < word.len() {
-        place = put_byte(out, place, word[index]);
-        index += 1;
+impl<'a> Line<'a> {
+    pub fn put_byte(&mut self, byte: u8)
+        ensures { self.new ≡ with_byte self.old byte }
+    {
+        if self.at < self.buffer.len() {
+            self.buffer[self.at] = byte;
+            self.at += 1;
+        }
     }
-    place
-}
 
-// In decimal.
-pub fn put_number(out: &mut [u8], at: usize, number: u64) -> usize
-    ensures { page out.new result ≡ put_text (page out.old at) (number_text number) }
-{
-    let mut digits = [0u8; 20];
-    let count = io::decimal(number, &mut digits);
-    put_word(out, at, &digits[..count])
+    pub fn put_word(&mut self, word: &[u8])
+        ensures { self.new ≡ with_text self.old word.now }
+    {
+        for &byte in word {
+            self.put_byte(byte);
+        }
+    }
+
+    // In decimal.
+    pub fn put_number(&mut self, number: u64)
+        ensures { self.new ≡ with_text self.old (number_text number) }
+    {
+        let mut digits = [0u8; 20];
+        let count = io::decimal(number, &mut digits);
+        self.put_word(&digits[..count]);
+    }
+
+    // A word, and a number behind it.
+    pub fn put_numbered(&mut self, word: &[u8], number: u64)
+        ensures { self.new ≡ with_text self.old (word.now ++ number_text number) }
+    {
+        self.put_word(word);
+        self.put_number(number);
+    }
 }

@@ -5,7 +5,6 @@ use mathlib.Core.Path.{◌≡◌, sym, ◌∙◌, refl, ap}
 use mathlib.Core.List.{List}
 use base.Logic.{ent, sep, via, snd∗}
 use contract.Monad.{conj, conj_l, conj_r, conj_mono, fact, fact_use, fact_i}
-use Rattle.lines.specs.Lines.{Page, page}
 
 -- the law
 pub same : {A : Type 0} {a b x : A} → a ≡ x → b ≡ x → a ≡ b
@@ -38,10 +37,10 @@ pub result_and_lent : {A B L : Type 0} {r s x : A} {y : B} {left other : B × L}
     (s ≡ x) × (other.0 ≡ y) → (r ≡ s) × (left ≡ other)
 result_and_lent e p q = (same p.0 q.0, pairs (same p.1 q.1) e)
 
--- one equation for the buffer at exit and the place answered, as a page
-pub paged : {L : Type 0} {r s : ℕ} {x : Page} {left other : List ℕ × L} → left.1 ≡ other.1 → page left.0 r ≡ x →
-    page other.0 s ≡ x → (r ≡ s) × (left ≡ other)
-paged e p q = (ap (λ (x : Page). x.at) (same p q), pairs (ap (λ (x : Page). x.bytes) (same p q)) e)
+-- one equation for what the first parameter holds at exit; no other is lent to be written, and nothing is answered
+pub lent : {A L : Type 0} {r s : Unit {0}} {x : A} {left other : A × L} → left.1 ≡ other.1 → left.0 ≡ x → other.0 ≡ x →
+    (r ≡ s) × (left ≡ other)
+lent e p q = (refl, pairs (same p q) e)
 
 -- one equation for what a part holds and one for where it stands; nothing is lent to be written
 pub part : {A P L : Type 0} {r s x : A} {p q y : P} {left : L} → (r ≡ x) × (p ≡ y) → (s ≡ x) × (q ≡ y) → ((p ≡ q) × (r ≡ s)) × (left ≡ left)

@@ -14,7 +14,10 @@ use denote.MutBor.{MutBor}
 use types.Logic.{Logic}
 use prog.Memory.{Memory}
 use prog.Routine.{Routine}
-use Rattle.lines.specs.Lines.{Page, ascii, put_byte, put_text}
+use Rattle.lines.specs.Line.{with_text}
+use Rattle.lines.specs.declared.Line.{Line}
+use Rattle.lines.proofs.Lines.{line_of}
+use Rattle.lines.specs.Lines.{ascii, put_byte, put_text}
 use Rattle.script_words.specs.declared.What.TheVariants.{AKey, HardOrEnd}
 use Rattle.script_words.specs.declared.What.{What}
 use Rattle.script_words.specs.contracts.put_what as put_what
@@ -28,19 +31,19 @@ module _ {M : Type 1} {𝓤 : Ura M} (𝓛 : Logic 𝓤) (memory : Memory → SP
   abbrev NeverHolds : SProp 𝓤 → Type 1
   NeverHolds says = ent 𝓤 says (fact 𝓤 ⊥)
 
-  -- put_what: of a buffer, a place and what was expected, the place answered, and what is left in the buffer
+  -- put_what: of a line, by its buffer and its place and what was expected, the place where the line goes on, and what is left in its buffer
   abbrev put_what_shuts_out : List ℕ → ℕ → What → ℕ → List ℕ → Type 1
   put_what_shuts_out out at what r left =
-      (κs : Lfts 1) → NeverHolds ((put_what.clauses 𝓛 memory run κs (lent_mut out, (at, (what, tt)))
-      ).ensures tt r (lent_mut left, (at, (what, tt))))
+      (κs : Lfts 2) → NeverHolds ((put_what.clauses 𝓛 memory run κs (lent_mut (line_of out at), (what, tt))
+      ).ensures tt tt (lent_mut (line_of left r), (what, tt)))
 
   -- a key is told as 0 to 4294967295 (docs/BENCH.md, "script")
   pub key_told_up_to_65535 : (r : ℕ) → put_what_shuts_out (replicate 17 0) 0 AKey r (ascii "a key, 0 to 65535")
-  unfolding put_byte put_text
-  key_told_up_to_65535 r κs = fact_mono 𝓤 _ _ (λ h. let z : ◌≡◌ {A = ℕ} 54 _ = ap (λ (p : Page). get_or p.bytes 12 0) h in omega arith)
+  unfolding with_text put_byte put_text
+  key_told_up_to_65535 r κs = fact_mono 𝓤 _ _ (λ h. let z : ◌≡◌ {A = ℕ} 54 _ = ap (λ (l : Line). get_or l.buffer.now 12 0) h in omega arith)
 
   -- behind `open KEY` the line may end
   pub end_not_told_behind_open : (r : ℕ) → put_what_shuts_out (replicate 14 0) 0 HardOrEnd r (ascii "hard or nohard")
-  unfolding put_byte put_text
+  unfolding with_text put_byte put_text
   end_not_told_behind_open r κs =
-      fact_mono 𝓤 _ _ (λ h. let z : ◌≡◌ {A = ℕ} 32 _ = ap (λ (p : Page). get_or p.bytes 4 0) h in omega arith)
+      fact_mono 𝓤 _ _ (λ h. let z : ◌≡◌ {A = ℕ} 32 _ = ap (λ (l : Line). get_or l.buffer.now 4 0) h in omega arith)

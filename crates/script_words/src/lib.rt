@@ -2,8 +2,10 @@
 #![tactic(auto)]
 
 ghost use Rattle.std.specs.Prelude.{◌≡◌};
-ghost use Rattle.lines.specs.Lines.{page, put_text};
+ghost use Rattle.lines.specs.Line.{with_text};
 ghost use Rattle.script_words.specs.Words.{what_text};
+
+use lines::Line;
 
 #[derive(Clone, Copy)]
 pub enum What {
@@ -22,34 +24,22 @@ pub enum What {
     NothingMore,
 }
 
-pub fn put_what(out: &mut [u8], at: usize, what: What) -> usize
-    ensures { page out.new result ≡ put_text (page out.old at) (what_text what) }
+pub fn put_what(line: &mut Line, what: What)
+    ensures { line.new ≡ with_text line.old (what_text what) }
 {
     match what {
-        What::AnEvent => lines::put_word(
-            out,
-            at,
-            b"open, trigger, path, nopath, connect, setup, calling, called, ready or expiry",
-        ),
-        What::AKey => lines::put_word(out, at, b"a key, 0 to 4294967295"),
-        What::HardOrEnd => lines::put_word(out, at, b"hard, nohard or nothing more"),
-        What::ASoftService => lines::put_word(out, at, b"none, asymmetric or symmetric"),
-        What::AConnection => lines::put_word(out, at, b"a connection, 0 to 65535"),
-        What::YesOrNo => lines::put_word(out, at, b"yes or no"),
-        What::ASwitchover => lines::put_word(
-            out,
-            at,
-            b"clearing, immediate or a switchover code, 0 to 255",
-        ),
-        What::AnIncarnation => lines::put_word(out, at, b"an incarnation number, 0 to 4294967295"),
-        What::CauseOrEnd => lines::put_word(out, at, b"cause or nothing more"),
-        What::ACause => lines::put_word(out, at, b"a cause, 0 to 255"),
-        What::CauseCrankbackOrEnd => lines::put_word(
-            out,
-            at,
-            b"cause, alternate, noalternate or nothing more",
-        ),
-        What::CrankbackOrEnd => lines::put_word(out, at, b"alternate, noalternate or nothing more"),
-        What::NothingMore => lines::put_word(out, at, b"nothing more"),
+        What::AnEvent => line.put_word(b"open, trigger, path, nopath, connect, setup, calling, called, ready or expiry"),
+        What::AKey => line.put_word(b"a key, 0 to 4294967295"),
+        What::HardOrEnd => line.put_word(b"hard, nohard or nothing more"),
+        What::ASoftService => line.put_word(b"none, asymmetric or symmetric"),
+        What::AConnection => line.put_word(b"a connection, 0 to 65535"),
+        What::YesOrNo => line.put_word(b"yes or no"),
+        What::ASwitchover => line.put_word(b"clearing, immediate or a switchover code, 0 to 255"),
+        What::AnIncarnation => line.put_word(b"an incarnation number, 0 to 4294967295"),
+        What::CauseOrEnd => line.put_word(b"cause or nothing more"),
+        What::ACause => line.put_word(b"a cause, 0 to 255"),
+        What::CauseCrankbackOrEnd => line.put_word(b"cause, alternate, noalternate or nothing more"),
+        What::CrankbackOrEnd => line.put_word(b"alternate, noalternate or nothing more"),
+        What::NothingMore => line.put_word(b"nothing more"),
     }
 }

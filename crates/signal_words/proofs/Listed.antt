@@ -6,8 +6,9 @@ use mathlib.Core.Bool.{Bool, true, false, ◌||◌, cond, true≢false}
 use mathlib.Core.List.{List, [], ◌∷◌, ◌++◌, append_assoc, append-nil}
 use lib.ListN.{length, take, get_or}
 use lib.Seq.{take-suc, take-length}
-use Rattle.lines.specs.Lines.{Page, put_byte, put_text}
-use Rattle.lines.proofs.Laws.{and_then, put_one, put_none}
+use Rattle.lines.specs.Line.{with_byte, with_text}
+use Rattle.lines.specs.declared.Line.{Line}
+use Rattle.lines.proofs.Lines.{and_then, byte_put, nothing_put}
 use Rattle.signal.specs.declared.Signal.{Signal}
 use Rattle.signal_words.specs.Words.{is_sent, signal_text, next_text, list_text, any_sent, signals_text}
 
@@ -27,12 +28,12 @@ grown : (ss : List Signal) (i : ℕ) (d : Signal) → i < length ss → take (i 
 grown ss i d h = let e : i + 1 ≡ suc i = omega arith in ap (λ n. take n ss) e ∙ take-suc ss i d h
 
 -- what a turn of the loop has put, and whether one stands before the next
-pub turn : (p q r : Page) (ss : List Signal) (i : ℕ) (d : Signal) (before : Bool) → i < length ss → before ≡ any_sent false (take i ss) →
-    q ≡ put_text p (list_text false (take i ss)) → r ≡ put_text q (next_text before (get_or ss i d)) → r ≡ put_text p
+pub turn : (p q r : Line) (ss : List Signal) (i : ℕ) (d : Signal) (before : Bool) → i < length ss → before ≡ any_sent false (take i ss) →
+    q ≡ with_text p (list_text false (take i ss)) → r ≡ with_text q (next_text before (get_or ss i d)) → r ≡ with_text p
     (list_text false (take (i + 1) ss))
 turn p q r ss i d before h b f g =
-    and_then p q r _ _ f (g ∙ ap (λ t. put_text q (next_text t (get_or ss i d))) b)
-    ∙ ap (put_text p) (sym (ap (list_text false) (grown ss i d h) ∙ list_more false (take i ss) (get_or ss i d)))
+    and_then p q r _ _ f (g ∙ ap (λ t. with_text q (next_text t (get_or ss i d))) b)
+    ∙ ap (with_text p) (sym (ap (list_text false) (grown ss i d h) ∙ list_more false (take i ss) (get_or ss i d)))
 
 pub turned : (ss : List Signal) (i : ℕ) (d : Signal) (before after : Bool) → i < length ss → before ≡ any_sent false (take i ss) →
     after ≡ (before || is_sent (get_or ss i d).kind) → after ≡ any_sent false (take (i + 1) ss)
@@ -44,11 +45,11 @@ turned ss i d before after h b a =
 whole : (ss : List Signal) (i : ℕ) → i ≡ length ss → take i ss ≡ ss
 whole ss i e = ap (λ n. take n ss) e ∙ take-length ss
 
-pub some_sent : (p q : Page) (ss : List Signal) (i : ℕ) (before : Bool) → i ≡ length ss → before ≡ any_sent false (take i ss) →
-    q ≡ put_text p (list_text false (take i ss)) → before ≡ true → q ≡ put_text p (signals_text ss)
+pub some_sent : (p q : Line) (ss : List Signal) (i : ℕ) (before : Bool) → i ≡ length ss → before ≡ any_sent false (take i ss) →
+    q ≡ with_text p (list_text false (take i ss)) → before ≡ true → q ≡ with_text p (signals_text ss)
 some_sent p q ss i before e b f t =
     let any : any_sent false ss ≡ true = sym (ap (any_sent false) (whole ss i e)) ∙ (sym b ∙ t) in
-    rw any (f ∙ ap (λ l. put_text p (list_text false l)) (whole ss i e))
+    rw any (f ∙ ap (λ l. with_text p (list_text false l)) (whole ss i e))
 
 -- and where none does
 any_stays : (ss : List Signal) → any_sent true ss ≡ true
@@ -64,10 +65,10 @@ nothing_listed (s ∷ ss) h = by_kind (is_sent s.kind) h (nothing_listed ss)
     by_kind true none rest = absurd (true≢false (sym (any_stays ss) ∙ none))
     by_kind false none rest = rest none
 
-pub none_sent : (p q r : Page) (ss : List Signal) (i : ℕ) (before : Bool) → i ≡ length ss → before ≡ any_sent false (take i ss) →
-    q ≡ put_text p (list_text false (take i ss)) → before ≡ false → r ≡ put_byte q 45 → r ≡ put_text p (signals_text ss)
+pub none_sent : (p q r : Line) (ss : List Signal) (i : ℕ) (before : Bool) → i ≡ length ss → before ≡ any_sent false (take i ss) →
+    q ≡ with_text p (list_text false (take i ss)) → before ≡ false → r ≡ with_byte q 45 → r ≡ with_text p (signals_text ss)
 none_sent p q r ss i before e b f t g =
     let any : any_sent false ss ≡ false = sym (ap (any_sent false) (whole ss i e)) ∙ (sym b ∙ t) in
     let same : q ≡ p =
-    f ∙ (ap (λ l. put_text p (list_text false l)) (whole ss i e) ∙ (ap (put_text p) (nothing_listed ss any) ∙ put_none p)) in
-    rw any (g ∙ (ap (λ s. put_byte s 45) same ∙ sym (put_one p 45)))
+    f ∙ (ap (λ l. with_text p (list_text false l)) (whole ss i e) ∙ (ap (with_text p) (nothing_listed ss any) ∙ sym (nothing_put p))) in
+    rw any (g ∙ (ap (λ s. with_byte s 45) same ∙ byte_put p 45))

@@ -9,6 +9,7 @@ ghost use Rattle.std.specs.Prelude.{◌≡◌, length};
 
 use call::Call;
 use events::Node;
+use lines::Line;
 use std::io::{Stderr, Stdin, Stdout};
 use trace_line::Columns;
 
@@ -21,11 +22,13 @@ fn room() -> [u8; 655360]
 
 // A line on standard error.
 fn complain(mut stderr: Stderr, name: &[u8], what: &[u8]) {
-    let mut line = [0u8; 64];
-    let named = lines::put_word(&mut line, 0, name);
-    let told = lines::put_word(&mut line, named, what);
+    let mut buffer = [0u8; 64];
+    let mut line = Line { buffer: &mut buffer, at: 0 };
+    line.put_word(name);
+    line.put_word(what);
+    let told = line.at;
     if told < 64 {
-        streams::write_all(&mut stderr, &line[0..told]);
+        streams::write_all(&mut stderr, &buffer[0..told]);
     }
 }
 
@@ -92,7 +95,9 @@ pub fn serve(rt: HostRuntime, node: Node, columns: Columns, name: &[u8]) {
     let stdout = rt.stdout();
     let stderr = rt.stderr();
     let mut out = room();
-    let first = trace_line::put_first_line(&mut out, 0, columns);
+    let mut line = Line { buffer: &mut out, at: 0 };
+    trace_line::put_first_line(&mut line, columns);
+    let first = line.at;
     if show(stdout, stderr, &out, first, name) {
         let mut input = streams::large_buffer();
         follow(

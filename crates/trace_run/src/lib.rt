@@ -14,6 +14,7 @@ use admission::Admission;
 use call::{Call, Outcome};
 use event_record::{Request, decode, record_at};
 use events::{Act, Node};
+use lines::Line;
 use signal::{Answer, Signal};
 use trace_line::Columns;
 
@@ -132,7 +133,7 @@ pub fn run(
 {
     let mut calls = table;
     let mut keys = keys_of(table);
-    let mut at: usize = 0;
+    let mut line = Line { buffer: out, at: 0 };
     let mut count = start;
     let records = input.len() / 16;
     let mut index: usize = 0;
@@ -140,8 +141,8 @@ pub fn run(
         let decoded = decode(node, record_at(input, index * 16));
         let request = decoded.request;
         let Request::Asks(act) = request else {
-            at = lines::put_word(out, at, b"bad\n");
-            return stopped(calls, at, count, false);
+            line.put_word(b"bad\n");
+            return stopped(calls, line.at, count, false);
         };
         count += 1;
         let found = find(&keys, decoded.key);
@@ -151,11 +152,11 @@ pub fn run(
             let call = outcome.call;
             calls[place] = call;
             keys[place] = call.key;
-            at = trace_line::put_line(out, at, columns, count, outcome);
+            trace_line::put_line(&mut line, columns, count, outcome);
         } else {
-            at = trace_line::put_line(out, at, columns, count, unplaced(decoded.key, act));
+            trace_line::put_line(&mut line, columns, count, unplaced(decoded.key, act));
         }
         index += 1;
     }
-    stopped(calls, at, count, true)
+    stopped(calls, line.at, count, true)
 }

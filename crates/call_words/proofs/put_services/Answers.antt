@@ -1,8 +1,12 @@
 -- Two numbers put one after the other, each of which is known.
-use Rattle.lines.proofs.Laws.{and_then}
-use Rattle.call_words.proofs.Laws.{known}
+use Rattle.std.proofs.Common.{◌≡◌, Bool, true, false, cond, refl}
+use mir.Val.{bool_byte}
+use Rattle.lines.proofs.Lines.{and_then}
 use Rattle.call_words.proofs.put_services.Goals as goal
 
+flag : (on : Bool) → bool_byte on ≡ cond on 1 0
+flag true = refl
+flag false = refl
+
 pub returns : goal.returns
-returns c =
-    and_then _ _ _ _ _ (known _ _ _ _ c.bit.ensures c.put_further-place.ensures) (known _ _ _ _ c.number.ensures c.put_further.ensures)
+returns c = rw (← flag c.args.hard, ← c.number.ensures) (and_then _ _ _ _ _ c.put_further.ensures c.put_further-2.ensures)

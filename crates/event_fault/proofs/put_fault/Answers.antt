@@ -1,13 +1,11 @@
--- Nothing, or five parts put one after the other.
-use Rattle.std.proofs.Common.{sym}
-use Rattle.lines.proofs.Laws.{and_then, put_none}
+-- Nothing, or four parts put one after the other.
+use Rattle.lines.proofs.Lines.{and_then, nothing_put}
 use Rattle.event_fault.proofs.put_fault.Goals as goal
 
-pub returns-in-NoFault : goal.returns-in-NoFault
-returns-in-NoFault c = rw c.in-NoFault.is (sym (put_none _))
+pub returns-in-Some : goal.returns-in-Some
+returns-in-Some c =
+    rw c.in-Some.is (and_then _ _ _ _ _ c.put_numbered.ensures
+    (and_then _ _ _ _ _ c.put_numbered-in-Some.ensures (and_then _ _ _ _ _ c.put_word.ensures c.put_expected.ensures)))
 
-pub returns-in-Misses : goal.returns-in-Misses
-returns-in-Misses c =
-    rw c.in-Misses.is (and_then _ _ _ _ _ c.put_octet-told.ensures
-    (and_then _ _ _ _ _ c.put_word-is.ensures
-    (and_then _ _ _ _ _ c.put_number-valued.ensures (and_then _ _ _ _ _ c.put_word-then.ensures c.put_expected.ensures))))
+pub returns-in_default : goal.returns-in_default
+returns-in_default c = rw c.in_default.is (nothing_put _)

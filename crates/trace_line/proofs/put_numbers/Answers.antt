@@ -1,5 +1,5 @@
 -- Four fields put one after the other, each of a number that is known.
-use Rattle.lines.proofs.Laws.{and_then}
+use Rattle.lines.proofs.Lines.{and_then}
 use Rattle.trace_line.specs.Line.{numbers_text}
 use Rattle.trace_line.proofs.put_numbers.Goals as goal
 
@@ -7,5 +7,4 @@ pub returns : goal.returns
 unfolding numbers_text
 returns c =
     rw (← c.number.ensures, ← c.number-2.ensures, ← c.incumbent.ensures, ← c.rerouting.ensures)
-    (and_then _ _ _ _ _ c.put_field-answered.ensures
-    (and_then _ _ _ _ _ c.put_field-stated.ensures (and_then _ _ _ _ _ c.put_field-held.ensures c.put_field.ensures)))
+    (and_then _ _ _ _ _ c.put_field.ensures (and_then _ _ _ _ _ c.put_field-2.ensures (and_then _ _ _ _ _ c.put_field-3.ensures c.put_field-4.ensures)))

@@ -10,7 +10,8 @@ invariant-loop-index l =
     × ((l.records ≡ length l.input / 16)
     × ((l.count ≡ l.start + l.index)
     × ((length l.keys ≡ 64)
-    × Standing l.node l.columns l.input (begin l.fn.table l.start) l.fn.out l.index l.calls l.keys l.count l.at l.out)))
+    × ((l.line.buffer.ghost_name ≡ l.initial.line.buffer.ghost_name)
+    × Standing l.node l.columns l.input (begin l.fn.table l.start) l.fn.out l.index l.calls l.keys l.count l.line.at l.line.buffer.now))))
 
 abbrev pub decreases-loop-index : goal.decreases-loop-index
 decreases-loop-index l = l.records - l.index
