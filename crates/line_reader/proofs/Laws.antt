@@ -75,7 +75,7 @@ behind l at place e =
     let start : drop from l ≡ past is_blank (drop at l) = past_back is_blank l at in
     ap (λ n. drop n l) (e ∙ ap (λ r. place_before l (past is_of_word r)) (sym start)) ∙ (past_back is_of_word l from ∙ ap (past is_of_word) start)
 
--- and so does `==` compare two texts
+-- as `==` compares them
 pub same_is : (a b : List ℕ) → same_text a b ≡ pointwise eqb a b
 same_is [] [] = refl
 same_is [] (y ∷ b) = refl

@@ -10,7 +10,7 @@ use Rattle.std.proofs.lemmas.Option.{cond_some}
 use lib.ListN.{length, get_or, drop}
 use lib.Seq.{drop-cons}
 use borrow.Author.Tests.{eqb-true, lt-leb, ltb-false, leb-true}
-use Rattle.std.specs.Prelude.{Option, Some, None}
+use Rattle.std.proofs.Common.{Option, Some, None}
 use Rattle.line_reader.specs.Numbers.{is_digit, all_digits, is_decimal, value_from, number_up_to}
 
 -- what is still to come behind a number
@@ -27,6 +27,7 @@ unfolding number_up_to
 begun limit [] e = absurd (false≢true e)
 begun limit (b ∷ bs) e = refl
 
+-- where the digits stand
 pub digit_is : (b : ℕ) → is_digit b ≡ true → (48 ≤ b) × (b ≤ 57)
 digit_is b d = by_tests (ltb b 48) (leb b 57) refl refl d
   where
@@ -54,7 +55,7 @@ too_high limit n rest h = by_test (all_digits rest) refl
     by_test true d = rw (lt-leb (value_from n rest) limit (omega (arith, grows n rest d)))
     by_test false d = refl
 
--- one digit more
+-- a digit that takes the number above the limit leaves none
 pub above : (limit : ℕ) (word : List ℕ) (n i d : ℕ) → i < length word → number_from limit n (drop i word) ≡ number_up_to limit word →
     Some d ≡ cond (is_digit (get_or word i 0)) (Some (get_or word i 0 - 48)) None → limit < n * 10 + d → None ≡ number_up_to limit word
 above limit word n i d h e read more =

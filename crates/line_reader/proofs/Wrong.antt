@@ -14,7 +14,7 @@ use denote.Ref.{Bor}
 use types.Logic.{Logic}
 use prog.Memory.{Memory}
 use prog.Routine.{Routine}
-use Rattle.std.specs.Prelude.{Option, Some, None}
+use Rattle.std.proofs.Common.{Option, Some, None}
 use Rattle.line_reader.specs.Numbers.{number_up_to}
 use Rattle.line_reader.specs.Words.{first_word, after_word}
 use Rattle.line_reader.specs.contracts.after as after
