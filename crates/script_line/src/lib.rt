@@ -1,7 +1,8 @@
 // A line of a script read into a key and what is done with it, or into what was expected at the first word that does not fit
 // (docs/BENCH.md, "script").
 //
-// The name of the event is judged first, then the key, then the rest from left to right. A function takes what is left of the line.
+// The name of the event is judged first, then the key, then the rest from left to right. A function takes what is left of the line, and the
+// key apart from it, as its definition in specs/Script does.
 #![tactic(auto)]
 
 ghost use Rattle.std.specs.Prelude.{◌≡◌, ok_or};
