@@ -1,10 +1,11 @@
 -- The laws of words: what passes a test at the front, and places in a line. Assumes nothing.
-use Prim.Native.Nat.{ℕ, suc, ◌+◌, ◌-◌, ◌≤◌}
+use Prim.Native.Nat.{ℕ, ◌+◌, ◌-◌, ◌≤◌}
 use native.Mathlib.Omega.{arith}
 use mathlib.Core.Path.{◌≡◌, refl, sym, ◌∙◌, ap}
-use mathlib.Core.Bool.{Bool, true, false, cond}
+use mathlib.Core.Bool.{Bool, true, false, cond, ◌&&◌}
 use mathlib.Core.List.{List, [], ◌∷◌, ◌++◌}
 use lib.Dec.{leb, eqb}
+use Rattle.std.specs.Cmp.Lexicographic.{pointwise}
 use lib.ListN.{length, take, drop, length-append, length-drop, drop_of_length-le}
 use lib.Seq.{drop-drop, drop-append_seam, take_at}
 use borrow.Author.Tests.{leb-true, leb-false}
@@ -74,13 +75,13 @@ behind l at place e =
     let start : drop from l ≡ past is_blank (drop at l) = past_back is_blank l at in
     ap (λ n. drop n l) (e ∙ ap (λ r. place_before l (past is_of_word r)) (sym start)) ∙ (past_back is_of_word l from ∙ ap (past is_of_word) start)
 
--- texts of two lengths differ
-pub other_length : (a b : List ℕ) → (length a ≡ length b → ⊥) → same_text a b ≡ false
-other_length [] [] h = absurd (h refl)
-other_length [] (y ∷ b) h = refl
-other_length (x ∷ a) [] h = refl
-other_length (x ∷ a) (y ∷ b) h = by_test (eqb x y) (other_length a b (λ e. h (ap suc e)))
+-- as `==` compares them
+pub same_is : (a b : List ℕ) → same_text a b ≡ pointwise eqb a b
+same_is [] [] = refl
+same_is [] (y ∷ b) = refl
+same_is (x ∷ a) [] = refl
+same_is (x ∷ a) (y ∷ b) = by_test (eqb x y) (same_is a b)
   where
-    by_test : (t : Bool) → same_text a b ≡ false → cond t (same_text a b) false ≡ false
+    by_test : (t : Bool) → same_text a b ≡ pointwise eqb a b → cond t (same_text a b) false ≡ (t && pointwise eqb a b)
     by_test true rest = rest
     by_test false rest = refl

@@ -14,10 +14,9 @@ use denote.Ref.{Bor}
 use types.Logic.{Logic}
 use prog.Memory.{Memory}
 use prog.Routine.{Routine}
+use Rattle.std.proofs.Common.{Option, Some, None}
 use Rattle.line_reader.specs.Numbers.{number_up_to}
 use Rattle.line_reader.specs.Words.{first_word, after_word}
-use Rattle.line_reader.specs.declared.Reading.TheVariants.{Counts, NoNumber}
-use Rattle.line_reader.specs.declared.Reading.{Reading}
 use Rattle.line_reader.specs.contracts.after as after
 use Rattle.line_reader.specs.contracts.is as is
 use Rattle.line_reader.specs.contracts.number as number
@@ -63,17 +62,17 @@ module _ {M : Type 1} {𝓤 : Ura M} (𝓛 : Logic 𝓤) (memory : Memory → SP
   every_octet_compared_with_the_first κs = fact_mono 𝓤 _ _ (λ h. let z : ◌≡◌ {A = ℕ} 0 1 = cc in omega arith)
 
   -- number: of a line, a place in it and a limit, what the next word says as a number
-  abbrev number_shuts_out : List ℕ → ℕ → ℕ → Reading → Type 1
+  abbrev number_shuts_out : List ℕ → ℕ → ℕ → Option ℕ → Type 1
   number_shuts_out line at limit r =
       (κs : Lfts 1) → NeverHolds ((number.clauses 𝓛 memory run κs (lent line, (at, (limit, tt)))
       ).ensures tt r (lent line, (at, (limit, tt))))
 
   -- decimal digits alone are a number (docs/BENCH.md, "script"): ":" stands behind "9"
-  pub colon_is_a_digit : number_shuts_out (58 ∷ []) 0 255 (Counts 10)
+  pub colon_is_a_digit : number_shuts_out (58 ∷ []) 0 255 (Some 10)
   unfolding first_word number_up_to
   colon_is_a_digit κs = fact_mono 𝓤 _ _ (λ h. let z : ◌≡◌ {A = ℕ} 0 1 = cc in omega arith)
 
   -- from 0 to the limit, which is let through
-  pub limit_itself_is_refused : number_shuts_out (57 ∷ []) 0 9 NoNumber
+  pub limit_itself_is_refused : number_shuts_out (57 ∷ []) 0 9 None
   unfolding first_word number_up_to
   limit_itself_is_refused κs = fact_mono 𝓤 _ _ (λ h. let z : ◌≡◌ {A = ℕ} 0 1 = cc in omega arith)

@@ -1,7 +1,5 @@
 -- A word as a number in decimal (docs/BENCH.md, "script"). Assumes nothing.
-use Rattle.std.specs.Prelude.{ℕ, ◌+◌, ◌-◌, ◌*◌, Bool, true, false, cond, List, [], ◌∷◌, ltb, leb}
-use Rattle.line_reader.specs.declared.Reading.{Reading}
-use Rattle.line_reader.specs.declared.Reading.TheVariants.{Counts, NoNumber}
+use Rattle.std.specs.Prelude.{ℕ, ◌+◌, ◌-◌, ◌*◌, Bool, true, false, cond, List, [], ◌∷◌, ltb, leb, Option, Some, None}
 
 abbrev pub is_digit : ℕ → Bool
 is_digit b = cond (ltb b 48) false (leb b 57)
@@ -24,5 +22,5 @@ abbrev pub value_of : List ℕ → ℕ
 value_of word = value_from 0 word
 
 -- digits alone, leading zeros among them, and at most the limit
-unfoldable pub number_up_to : ℕ → List ℕ → Reading
-number_up_to limit word = cond (is_decimal word) (cond (leb (value_of word) limit) (Counts (value_of word)) NoNumber) NoNumber
+unfoldable pub number_up_to : ℕ → List ℕ → Option ℕ
+number_up_to limit word = cond (is_decimal word) (cond (leb (value_of word) limit) (Some (value_of word)) None) None

@@ -8,7 +8,6 @@
 mod print;
 
 use events::Node;
-use script_line::Parsed;
 use std::io::{Stderr, Stdin, Stdout};
 
 // How far the reading has come.
@@ -127,17 +126,16 @@ fn line_end(
     progress: Progress,
 ) -> Progress {
     let waiting = progress.waiting;
-    let parsed = script_line::parse(node, print::first(line, progress.length));
-    match parsed {
-        Parsed::Wordless => progress.next(waiting),
-        Parsed::Told(key, act) => {
+    match script_line::parse(node, print::first(line, progress.length)) {
+        Ok(None) => progress.next(waiting),
+        Ok(Some((key, act))) => {
             let record = event_record::encode(node, key, act);
             let place = lines::put_word(records, waiting, &record);
             progress
                 .next(place)
                 .written_if_full(stdout, stderr, node, records)
         }
-        Parsed::Expected(what) => {
+        Err(what) => {
             print::expected(
                 stdout,
                 stderr,

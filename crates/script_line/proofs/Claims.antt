@@ -1,4 +1,5 @@
 -- The claims on a line of a script (specs/Claims), proved. Assumes nothing.
+use Rattle.std.specs.Prelude.{None, Option, Some}
 use Prim.Native.Nat.{ℕ, ◌≤◌, ◌<◌}
 use native.Mathlib.Omega.{arith}
 use mathlib.Core.Path.{◌≡◌, refl, sym, ◌∙◌, ap, subst}
@@ -7,7 +8,7 @@ use mathlib.Core.List.{List, [], ◌∷◌, ◌++◌, append-nil, append_assoc}
 use mathlib.Core.Logic.{inl}
 use lib.Dec.{eqb}
 use borrow.Author.Tests.{eqb-true}
-use Rattle.std.specs.Prelude.{Option, None, Some}
+use Rattle.std.proofs.Common.{Some, Ok}
 use Rattle.lines.specs.Lines.{ascii}
 use Rattle.line_reader.specs.Words.{first_word, after_word}
 use Rattle.line_reader.specs.Numbers.{number_up_to}
@@ -15,9 +16,9 @@ use Rattle.line_reader.proofs.Claims.{comment_is_no_word, blank_behind_is_no_wor
 use Rattle.signal.specs.declared.Crankback.{Crankback}
 use Rattle.signal.specs.declared.Crankback.TheVariants.{NoCrankback, AlternateFound, NoAlternate}
 use Rattle.signal.specs.declared.ReroutingCause.{ReroutingCause}
-use Rattle.signal.specs.declared.Services.{Services}
 use Rattle.signal.specs.declared.Soft.{Soft}
 use Rattle.signal.specs.declared.Soft.TheVariants.{NoSoft, Asymmetric, Symmetric}
+use Rattle.signal.specs.declared.Services.{Services}
 use Rattle.events.specs.declared.Event.{Event}
 use Rattle.events.specs.declared.Event.TheVariants.{Trigger, PathFound, NoPath, Connect, Setup, FromParty, FromDomain, Ready, Expiry}
 use Rattle.events.specs.declared.Act.{Act}
@@ -33,9 +34,7 @@ use Rattle.script_words.specs.declared.What.TheVariants.{AKey, AConnection, AnIn
 use Rattle.script_line.specs.declared.Name.{Name}
 use Rattle.script_line.specs.declared.Name.TheVariants.{OpenName, TriggerName, PathName, NoPathName, ConnectName, SetupName}
 use Rattle.script_line.specs.declared.Name.TheVariants.{CallingName, CalledName, ReadyName, ExpiryName}
-use Rattle.script_line.specs.declared.Parsed.{Parsed}
-use Rattle.script_line.specs.declared.Parsed.TheVariants.{Told}
-use Rattle.script_line.specs.Script.{plain_name, full_name, name_of, read_end, read_soft, read_open, read_policy, with_number, read_connect}
+use Rattle.script_line.specs.Script.{Parsed, plain_name, full_name, name_of, read_end, read_soft, read_open, read_policy, with_number, read_connect}
 use Rattle.script_line.specs.Script.{read_code, read_incarnation, read_setup, read_calling_cause, read_calling, read_crankback}
 use Rattle.script_line.specs.Script.{read_called_cause, read_release, read_called, read_arguments, read_keyed, parsed_of}
 use Rattle.script_line.specs.Claims as claim
@@ -93,7 +92,7 @@ at_end : (n : ℕ) → then_number n ≡ then_number n ++ []
 at_end n = sym (append-nil (then_number n))
 
 opens : (key : ℕ) (hard : Bool) (soft : Soft) →
-    read_open key (hard_text hard ++ soft_text soft) ≡ Told key (Opens (Some (record { hard = hard; soft = soft })))
+    read_open key (hard_text hard ++ soft_text soft) ≡ Ok (Some (key, Opens (Some (record { hard = hard; soft = soft }))))
 unfolding read_open read_soft read_end first_word after_word
 opens key true NoSoft = refl
 opens key true Asymmetric = refl
@@ -102,7 +101,7 @@ opens key false NoSoft = refl
 opens key false Asymmetric = refl
 opens key false Symmetric = refl
 
-opens_wanted : (key : ℕ) (w : Option Services) → read_open key (wanted_text w) ≡ Told key (Opens w)
+opens_wanted : (key : ℕ) (w : Option Services) → read_open key (wanted_text w) ≡ Ok (Some (key, Opens w))
 unfolding read_open first_word
 opens_wanted key None = refl
 opens_wanted key (Some s) = opens key s.hard s.soft
@@ -111,13 +110,13 @@ policy_parted : (policy : Bool) → Parted (policy_text policy)
 policy_parted true = refl
 policy_parted false = refl
 
-policy_told : (key c : ℕ) (policy : Bool) → read_policy key c (policy_text policy) ≡ Told key (Meets (Connect c policy))
+policy_told : (key c : ℕ) (policy : Bool) → read_policy key c (policy_text policy) ≡ Ok (Some (key, Meets (Connect c policy)))
 unfolding read_policy read_end first_word after_word
 policy_told key c true = refl
 policy_told key c false = refl
 
 connects : (key c : ℕ) (policy : Bool) → c < 65536 →
-    read_connect key (then_number c ++ policy_text policy) ≡ Told key (Meets (Connect c policy))
+    read_connect key (then_number c ++ policy_text policy) ≡ Ok (Some (key, Meets (Connect c policy)))
 unfolding read_connect
 connects key c policy h =
     reads 65535 c AConnection (policy_text policy) (λ n rest. read_policy key n rest) (omega arith) (policy_parted policy)
@@ -125,30 +124,30 @@ connects key c policy h =
 
 -- a switchover by its name or its number
 incarnation_told : (key code n : ℕ) → n < 4294967296 →
-    read_incarnation key code (then_number n) ≡ Told key (Meets (Setup (record { code = code }) n))
+    read_incarnation key code (then_number n) ≡ Ok (Some (key, Meets (Setup (record { code = code }) n)))
 unfolding read_incarnation read_end first_word
 incarnation_told key code n h =
     ap (read_incarnation key code) (at_end n) ∙ reads 4294967295 n AnIncarnation []
     (λ m rest. read_end key (Meets (Setup (record { code = code }) m)) rest) (omega arith) tt
 
 immediate_told : (key n : ℕ) → n < 4294967296 →
-    read_setup key (ascii " immediate" ++ then_number n) ≡ Told key (Meets (Setup (record { code = 0 }) n))
+    read_setup key (ascii " immediate" ++ then_number n) ≡ Ok (Some (key, Meets (Setup (record { code = 0 }) n)))
 unfolding read_setup read_code first_word after_word
 immediate_told key n h = incarnation_told key 0 n h
 
 clearing_told : (key n : ℕ) → n < 4294967296 →
-    read_setup key (ascii " clearing" ++ then_number n) ≡ Told key (Meets (Setup (record { code = 1 }) n))
+    read_setup key (ascii " clearing" ++ then_number n) ≡ Ok (Some (key, Meets (Setup (record { code = 1 }) n)))
 unfolding read_setup read_code first_word after_word
 clearing_told key n h = incarnation_told key 1 n h
 
 setups : (key code n : ℕ) → code < 256 → n < 4294967296 →
-    read_setup key (switchover_text code ++ then_number n) ≡ Told key (Meets (Setup (record { code = code }) n))
+    read_setup key (switchover_text code ++ then_number n) ≡ Ok (Some (key, Meets (Setup (record { code = code }) n)))
 unfolding read_setup read_code
 setups key code n c h = by_tests (eqb code 0) (eqb code 1) refl refl
   where
     by_tests : (t u : Bool) → eqb code 0 ≡ t → eqb code 1 ≡ u →
         read_setup key (cond t (ascii " immediate") (cond u (ascii " clearing") (then_number code)) ++ then_number n)
-        ≡ Told key (Meets (Setup (record { code = code }) n))
+        ≡ Ok (Some (key, Meets (Setup (record { code = code }) n)))
     by_tests true u e f = rw (eqb-true code 0 e) (immediate_told key n h)
     by_tests false true e f = rw (eqb-true code 1 f) (clearing_told key n h)
     by_tests false false e f =
@@ -162,7 +161,7 @@ setups key code n c h = by_tests (eqb code 0) (eqb code 1) refl refl
         (incarnation_told key code n h)
 
 calling_told : (key : ℕ) (cause : Option ReroutingCause) → CauseFits cause →
-    read_calling key (received_cause_text cause) ≡ Told key (Meets (FromParty cause))
+    read_calling key (received_cause_text cause) ≡ Ok (Some (key, Meets (FromParty cause)))
 unfolding read_calling read_calling_cause read_end first_word after_word
 calling_told key None h = refl
 calling_told key (Some c) h =
@@ -170,7 +169,7 @@ calling_told key (Some c) h =
     ∙ reads 255 c.number ACause [] (λ n rest. read_end key (Meets (FromParty (Some (record { number = n })))) rest) (omega arith) tt
 
 crankback_told : (key c : ℕ) (cause : Option ReroutingCause) (what : What) (back : Crankback) →
-    read_crankback key c cause what (crankback_text back) ≡ Told key (Meets (FromDomain c cause back))
+    read_crankback key c cause what (crankback_text back) ≡ Ok (Some (key, Meets (FromDomain c cause back)))
 unfolding read_crankback read_end first_word after_word
 crankback_told key c cause what NoCrankback = refl
 crankback_told key c cause what AlternateFound = refl
@@ -184,7 +183,7 @@ no_cause_told key c AlternateFound = refl
 no_cause_told key c NoAlternate = refl
 
 release_told : (key c : ℕ) (cause : Option ReroutingCause) (back : Crankback) → CauseFits cause →
-    read_release key c (received_cause_text cause ++ crankback_text back) ≡ Told key (Meets (FromDomain c cause back))
+    read_release key c (received_cause_text cause ++ crankback_text back) ≡ Ok (Some (key, Meets (FromDomain c cause back)))
 unfolding read_release read_called_cause first_word after_word
 release_told key c None back h = no_cause_told key c back ∙ crankback_told key c None CauseCrankbackOrEnd back
 release_told key c (Some cause) back h =
@@ -193,7 +192,7 @@ release_told key c (Some cause) back h =
     ∙ crankback_told key c (Some cause) CrankbackOrEnd back
 
 called_told : (key c : ℕ) (cause : Option ReroutingCause) (back : Crankback) → c < 65536 → CauseFits cause →
-    read_called key (then_number c ++ (received_cause_text cause ++ crankback_text back)) ≡ Told key (Meets (FromDomain c cause back))
+    read_called key (then_number c ++ (received_cause_text cause ++ crankback_text back)) ≡ Ok (Some (key, Meets (FromDomain c cause back)))
 unfolding read_called
 called_told key c cause back h f =
     reads 65535 c AConnection (received_cause_text cause ++ crankback_text back) (λ n rest. read_release key n rest) (omega arith)
@@ -206,26 +205,26 @@ keyed_told : (name : Name) (key : ℕ) (rest : List ℕ) → key < 4294967296 �
 unfolding read_keyed
 keyed_told name key rest h p = reads 4294967295 key AKey rest (λ k more. read_arguments name k more) (omega arith) p
 
-nothing_told : (key : ℕ) (act : Act) → read_end key act [] ≡ Told key act
+nothing_told : (key : ℕ) (act : Act) → read_end key act [] ≡ Ok (Some (key, act))
 unfolding read_end first_word
 nothing_told key act = refl
 
 -- a release, by the name that its side has at an end
 party_told : (node : Node) (key : ℕ) (cause : Option ReroutingCause) → key < 4294967296 → CauseFits cause →
-    parsed_of node (event_text node key (Meets (FromParty cause))) ≡ Told key (Meets (FromParty cause))
+    parsed_of node (event_text node key (Meets (FromParty cause))) ≡ Ok (Some (key, Meets (FromParty cause)))
 unfolding parsed_of plain_name full_name name_of first_word after_word
 party_told Source key cause h f = keyed_told CallingName key _ h (event_parted (FromParty cause)) ∙ calling_told key cause f
 party_told Destination key cause h f = keyed_told CallingName key _ h (event_parted (FromParty cause)) ∙ calling_told key cause f
 
 domain_told : (node : Node) (key c : ℕ) (cause : Option ReroutingCause) (back : Crankback) → key < 4294967296 → c < 65536 → CauseFits cause →
-    parsed_of node (event_text node key (Meets (FromDomain c cause back))) ≡ Told key (Meets (FromDomain c cause back))
+    parsed_of node (event_text node key (Meets (FromDomain c cause back))) ≡ Ok (Some (key, Meets (FromDomain c cause back)))
 unfolding parsed_of plain_name full_name name_of first_word after_word
 domain_told Source key c cause back h l f =
     keyed_told CalledName key _ h (event_parted (FromDomain c cause back)) ∙ called_told key c cause back l f
 domain_told Destination key c cause back h l f =
     keyed_told CalledName key _ h (event_parted (FromDomain c cause back)) ∙ called_told key c cause back l f
 
-event_told : (node : Node) (key : ℕ) (e : Event) → Fits key (Meets e) → parsed_of node (event_text node key (Meets e)) ≡ Told key (Meets e)
+event_told : (node : Node) (key : ℕ) (e : Event) → Fits key (Meets e) → parsed_of node (event_text node key (Meets e)) ≡ Ok (Some (key, Meets e))
 unfolding parsed_of plain_name full_name name_of first_word after_word
 event_told node key Trigger h = keyed_told TriggerName key [] h.0 tt ∙ nothing_told key (Meets Trigger)
 event_told node key PathFound h = keyed_told PathName key [] h.0 tt ∙ nothing_told key (Meets PathFound)
@@ -239,11 +238,11 @@ event_told node key (FromDomain c cause back) h = domain_told node key c cause b
 event_told node key Ready h = keyed_told ReadyName key [] h.0 tt ∙ nothing_told key (Meets Ready)
 event_told node key Expiry h = keyed_told ExpiryName key [] h.0 tt ∙ nothing_told key (Meets Expiry)
 
-opening_told : (node : Node) (key : ℕ) (w : Option Services) → key < 4294967296 → parsed_of node (event_text node key (Opens w)) ≡ Told key (Opens w)
+opening_told : (node : Node) (key : ℕ) (w : Option Services) → key < 4294967296 → parsed_of node (event_text node key (Opens w)) ≡ Ok (Some (key, Opens w))
 unfolding parsed_of plain_name full_name name_of first_word after_word
 opening_told node key w h = keyed_told OpenName key (wanted_text w) h (parted (Opens w)) ∙ opens_wanted key w
 
-line_told : (node : Node) (key : ℕ) (act : Act) → Fits key act → parsed_of node (event_text node key act) ≡ Told key act
+line_told : (node : Node) (key : ℕ) (act : Act) → Fits key act → parsed_of node (event_text node key act) ≡ Ok (Some (key, act))
 line_told node key (Opens w) h = opening_told node key w h.0
 line_told node key (Meets e) h = event_told node key e h
 

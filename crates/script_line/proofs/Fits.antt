@@ -1,14 +1,13 @@
 -- The numbers of every event that a line is read as have a place in a record. Assumes nothing.
+use Rattle.std.specs.Prelude.{None, Option, Some}
 use Prim.Native.Nat.{ℕ, ◌≤◌, ◌<◌}
 use native.Mathlib.Omega.{arith}
 use mathlib.Core.Path.{◌≡◌, refl}
 use mathlib.Core.Bool.{Bool, true, false, cond}
 use mathlib.Core.List.{List}
-use Rattle.std.specs.Prelude.{Option, None, Some}
+use Rattle.std.proofs.Common.{Option, Some, None, Ok, Err}
 use Rattle.line_reader.specs.Words.{first_word, after_word}
 use Rattle.line_reader.specs.Numbers.{number_up_to}
-use Rattle.line_reader.specs.declared.Reading.{Reading}
-use Rattle.line_reader.specs.declared.Reading.TheVariants.{Counts, NoNumber}
 use Rattle.line_reader.proofs.Numbers.{at_most}
 use Rattle.signal.specs.declared.ReroutingCause.{ReroutingCause}
 use Rattle.events.specs.declared.Act.{Act}
@@ -18,30 +17,26 @@ use Rattle.script_words.specs.declared.What.{What}
 use Rattle.script_line.specs.declared.Name.{Name}
 use Rattle.script_line.specs.declared.Name.TheVariants.{OpenName, TriggerName, PathName, NoPathName, ConnectName, SetupName}
 use Rattle.script_line.specs.declared.Name.TheVariants.{CallingName, CalledName, ReadyName, ExpiryName}
-use Rattle.script_line.specs.declared.Naming.{Naming}
-use Rattle.script_line.specs.declared.Naming.TheVariants.{NoName, Names}
-use Rattle.script_line.specs.declared.Parsed.{Parsed}
-use Rattle.script_line.specs.declared.Parsed.TheVariants.{Wordless, Told, Expected}
-use Rattle.script_line.specs.Script.{is_word, name_of, read_end, read_soft, read_open, read_policy, with_number, read_connect, read_code}
+use Rattle.script_line.specs.Script.{Parsed, is_word, name_of, read_end, read_soft, read_open, read_policy, with_number, read_connect, read_code}
 use Rattle.script_line.specs.Script.{read_incarnation, read_setup, read_calling_cause, read_calling, read_crankback, read_called_cause}
 use Rattle.script_line.specs.Script.{read_release, read_called, read_arguments, read_keyed, name_at, read_named, parsed_of}
 use Rattle.script_line.proofs.Laws.{code_at_most}
 
 abbrev Meaning : Parsed → Type 0
-Meaning Wordless = Unit {0}
-Meaning (Told key act) = Fits key act
-Meaning (Expected what) = Unit {0}
+Meaning (Ok None) = Unit {0}
+Meaning (Ok (Some (key, act))) = Fits key act
+Meaning (Err what) = Unit {0}
 
 pub record Sound (parsed : Parsed) : Type 0 where
   pub meaning : Meaning parsed
 
-told : {key : ℕ} {act : Act} → Fits key act → Sound (Told key act)
+told : {key : ℕ} {act : Act} → Fits key act → Sound (Ok (Some (key, act)))
 told fits = record { meaning = fits }
 
-expected : {what : What} → Sound (Expected what)
+expected : {what : What} → Sound (Err what)
 expected = record { meaning = tt }
 
-pub fits_of : (key : ℕ) (act : Act) → Sound (Told key act) → Fits key act
+pub fits_of : (key : ℕ) (act : Act) → Sound (Ok (Some (key, act))) → Fits key act
 fits_of key act sound = sound.meaning
 
 -- either way, and with whatever number is read
@@ -49,10 +44,10 @@ either : (t : Bool) {x y : Parsed} → Sound x → Sound y → Sound (cond t x y
 either true a b = a
 either false a b = b
 
-of_reading : (limit : ℕ) (reading : Reading) (what : What) (further : ℕ → Parsed) → ((n : ℕ) → reading ≡ Counts n → n ≤ limit) →
+of_reading : (limit : ℕ) (reading : Option ℕ) (what : What) (further : ℕ → Parsed) → ((n : ℕ) → reading ≡ Some n → n ≤ limit) →
     ((n : ℕ) → n ≤ limit → Sound (further n)) → Sound (with_number reading what further)
-of_reading limit NoNumber what further most sound = expected
-of_reading limit (Counts n) what further most sound = sound n (most n refl)
+of_reading limit None what further most sound = expected
+of_reading limit (Some n) what further most sound = sound n (most n refl)
 
 of_number : (limit : ℕ) (word : List ℕ) (what : What) (further : ℕ → Parsed) → ((n : ℕ) → n ≤ limit → Sound (further n)) →
     Sound (with_number (number_up_to limit word) what further)
@@ -141,10 +136,10 @@ module _ (key : ℕ) (k : key < 4294967296) where
   arguments_sound ReadyName rest = end_sound key _ rest (k, tt)
   arguments_sound ExpiryName rest = end_sound key _ rest (k, tt)
 
-named_sound : (node : Node) (naming : Naming) (rest : List ℕ) → Sound (read_named node naming rest)
+named_sound : (node : Node) (naming : Option Name) (rest : List ℕ) → Sound (read_named node naming rest)
 unfolding read_keyed
-named_sound node NoName rest = expected
-named_sound node (Names name) rest =
+named_sound node None rest = expected
+named_sound node (Some name) rest =
     of_number 4294967295 (first_word rest) _ _ (λ key h. arguments_sound key (omega arith) (name_at name node) (after_word rest))
 
 pub parsed_sound : (node : Node) (line : List ℕ) → Sound (parsed_of node line)

@@ -4,23 +4,16 @@ use native.Mathlib.Omega.{arith}
 use mathlib.Core.Path.{◌≡◌, refl, ◌∙◌, ap}
 use mathlib.Core.Bool.{Bool, true, false, cond, false≢true}
 use mathlib.Core.List.{List, [], ◌∷◌, ◌++◌}
-use lib.Dec.{ltb, leb}
-use borrow.Author.Tests.{le-ltb, le-leb, ltb-true, ltb-false, leb-true, ne_eqb}
+use lib.Dec.{ltb}
+use borrow.Author.Tests.{le-ltb, le-leb, ltb-true, ltb-false, ne_eqb}
+use Rattle.std.proofs.Common.{Some}
 use Rattle.lines.specs.Lines.{spelled, number_text}
 use Rattle.line_reader.specs.Words.{is_blank, is_of_word, front, past, first_word, after_word, same_text}
 use Rattle.line_reader.specs.Numbers.{is_digit, all_digits, is_decimal, value_from, number_up_to}
-use Rattle.line_reader.specs.declared.Reading.TheVariants.{Counts}
+use Rattle.line_reader.proofs.Numbers.{digit_is}
 use Rattle.event_words.specs.Words.{then_number}
 
 -- digits are octets of a word
-digit_is : (b : ℕ) → is_digit b ≡ true → (48 ≤ b) × (b ≤ 57)
-digit_is b d = by_tests (ltb b 48) (leb b 57) refl refl d
-  where
-    by_tests : (low high : Bool) → ltb b 48 ≡ low → leb b 57 ≡ high → cond low false high ≡ true → (48 ≤ b) × (b ≤ 57)
-    by_tests true high l h d = absurd (false≢true d)
-    by_tests false false l h d = absurd (false≢true d)
-    by_tests false true l h d = (ltb-false b 48 l, leb-true b 57 h)
-
 no_blank : (b : ℕ) → is_digit b ≡ true → is_blank b ≡ false
 no_blank b d =
     let at = digit_is b d in
@@ -134,7 +127,7 @@ module _ (n : ℕ) (tail : List ℕ) (p : Parted tail) where
   unfolding after_word
   number_after = ap (past is_of_word) (no_blanks (number_text n) tail (text_number n)) ∙ past_digits (number_text n) tail (text_digits n) p
 
-pub number_reads : (limit n : ℕ) → n ≤ limit → number_up_to limit (number_text n) ≡ Counts n
+pub number_reads : (limit n : ℕ) → n ≤ limit → number_up_to limit (number_text n) ≡ Some n
 unfolding number_up_to
 number_reads limit n h = rw (text_number n, text_value n, le-leb n limit h)
 

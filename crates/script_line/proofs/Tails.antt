@@ -1,11 +1,12 @@
 -- A line is read as it is without what changes none of its words: a tail that is no word, such as a comment, or a blank at the end. Assumes
 -- nothing.
+use Rattle.std.specs.Prelude.{Option}
 use Prim.Native.Nat.{ℕ}
 use mathlib.Core.Path.{◌≡◌, refl, ◌∙◌, ap}
 use mathlib.Core.Bool.{Bool}
 use mathlib.Core.List.{List, ◌++◌}
 use mathlib.Core.Logic.{◌⊎◌, ⊎_elim}
-use Rattle.std.specs.Prelude.{Option}
+use Rattle.std.proofs.Common.{Option, Some, None}
 use Rattle.line_reader.specs.Words.{first_word, after_word}
 use Rattle.signal.specs.declared.ReroutingCause.{ReroutingCause}
 use Rattle.events.specs.declared.Act.{Act}
@@ -14,10 +15,7 @@ use Rattle.script_words.specs.declared.What.{What}
 use Rattle.script_line.specs.declared.Name.{Name}
 use Rattle.script_line.specs.declared.Name.TheVariants.{OpenName, TriggerName, PathName, NoPathName, ConnectName, SetupName}
 use Rattle.script_line.specs.declared.Name.TheVariants.{CallingName, CalledName, ReadyName, ExpiryName}
-use Rattle.script_line.specs.declared.Naming.{Naming}
-use Rattle.script_line.specs.declared.Naming.TheVariants.{NoName, Names}
-use Rattle.script_line.specs.declared.Parsed.{Parsed}
-use Rattle.script_line.specs.Script.{read_end, read_soft, read_open, read_policy, read_connect, read_incarnation, read_setup}
+use Rattle.script_line.specs.Script.{Parsed, read_end, read_soft, read_open, read_policy, read_connect, read_incarnation, read_setup}
 use Rattle.script_line.specs.Script.{read_calling_cause, read_calling, read_crankback, read_called_cause, read_release, read_called}
 use Rattle.script_line.specs.Script.{read_arguments, read_keyed, read_named, parsed_of}
 
@@ -124,12 +122,12 @@ module _ (tail : List ℕ) (first : (rest : List ℕ) → first_word (rest ++ ta
       read_arguments name key (after_word (rest ++ tail)) ≡ read_arguments name key (after_word rest)
   arguments_behind name key rest = behind (read_arguments name key) (arguments_same name key) rest
 
-  named_same : (node : Node) (naming : Naming) (rest : List ℕ) → read_named node naming (rest ++ tail) ≡ read_named node naming rest
+  named_same : (node : Node) (naming : Option Name) (rest : List ℕ) → read_named node naming (rest ++ tail) ≡ read_named node naming rest
   unfolding read_keyed
-  named_same node NoName rest = refl
-  named_same node (Names name) rest = simp (first, arguments_behind)
+  named_same node None rest = refl
+  named_same node (Some name) rest = simp (first, arguments_behind)
 
-  named_behind : (node : Node) (naming : Naming) (rest : List ℕ) →
+  named_behind : (node : Node) (naming : Option Name) (rest : List ℕ) →
       read_named node naming (after_word (rest ++ tail)) ≡ read_named node naming (after_word rest)
   named_behind node naming rest = behind (read_named node naming) (named_same node naming) rest
 

@@ -1,5 +1,5 @@
 -- What is claimed of a line of a script, in terms that do not follow the parser. Proofs: proofs/Claims.antt. Assumes nothing.
-use Rattle.std.specs.Prelude.{ℕ, ◌≡◌, true, List, [], ◌∷◌, ◌++◌}
+use Rattle.std.specs.Prelude.{ℕ, ◌≡◌, true, List, [], ◌∷◌, ◌++◌, Some, Ok}
 use Rattle.lines.specs.Lines.{ascii}
 use Rattle.line_reader.specs.Words.{is_blank}
 use Rattle.events.specs.declared.Act.{Act}
@@ -9,7 +9,6 @@ use Rattle.event_record.specs.Encoded.{written_at}
 use Rattle.event_record.specs.Claims.{Fits}
 use Rattle.event_record.specs.declared.Request.TheVariants.{Asks}
 use Rattle.event_words.specs.Words.{event_text}
-use Rattle.script_line.specs.declared.Parsed.TheVariants.{Told}
 use Rattle.script_line.specs.Script.{parsed_of}
 
 -- The line that tells an event at an end is read there as that event (docs/BENCH.md, "list"), and the record that is written of it decodes
@@ -17,13 +16,13 @@ use Rattle.script_line.specs.Script.{parsed_of}
 abbrev pub RoundTrip : Type 0
 RoundTrip =
     (node : Node) (key : ℕ) (act : Act) → Fits key act →
-    (parsed_of node (event_text node key act) ≡ Told key act)
+    (parsed_of node (event_text node key act) ≡ Ok (Some (key, act)))
     × (decoded_at node (written_at node key act) ≡ record { key = key; request = Asks act })
 
 -- Whatever a line is read as, its numbers have a place in a record, and the record that is written of it decodes to the same key and event.
 abbrev pub WrittenAsRead : Type 0
 WrittenAsRead =
-    (node : Node) (line : List ℕ) (key : ℕ) (act : Act) → parsed_of node line ≡ Told key act →
+    (node : Node) (line : List ℕ) (key : ℕ) (act : Act) → parsed_of node line ≡ Ok (Some (key, act)) →
     Fits key act × (decoded_at node (written_at node key act) ≡ record { key = key; request = Asks act })
 
 -- A comment changes nothing: a line is read as it is without one, so that its comment need not be kept.
@@ -38,4 +37,4 @@ BlanksBehindAreNotRead = (node : Node) (line : List ℕ) (b : ℕ) → is_blank 
 abbrev pub ListedIsRead : Type 0
 ListedIsRead =
     (node : Node) (key : ℕ) (act : Act) (comment : List ℕ) → Fits key act →
-    parsed_of node (event_text node key act ++ (ascii "  #" ++ comment)) ≡ Told key act
+    parsed_of node (event_text node key act ++ (ascii "  #" ++ comment)) ≡ Ok (Some (key, act))

@@ -1,11 +1,9 @@
 -- A line of a script, by cases, over the octets of it that are left (docs/BENCH.md, "script"). Assumes nothing.
-use Rattle.std.specs.Prelude.{ℕ, Bool, true, false, cond, List, Option, None, Some}
+use Rattle.std.specs.Prelude.{ℕ, Bool, true, false, cond, List, Option, Some, None, Result, Ok, Err}
 use Prim.Native.String.{String}
 use Rattle.lines.specs.Lines.{ascii}
 use Rattle.line_reader.specs.Words.{first_word, after_word, same_text}
 use Rattle.line_reader.specs.Numbers.{number_up_to}
-use Rattle.line_reader.specs.declared.Reading.{Reading}
-use Rattle.line_reader.specs.declared.Reading.TheVariants.{Counts, NoNumber}
 use Rattle.signal.specs.declared.Crankback.TheVariants.{NoCrankback, AlternateFound, NoAlternate}
 use Rattle.signal.specs.declared.ReroutingCause.{ReroutingCause}
 use Rattle.signal.specs.declared.Soft.{Soft}
@@ -13,53 +11,53 @@ use Rattle.signal.specs.declared.Soft.TheVariants.{NoSoft, Asymmetric, Symmetric
 use Rattle.events.specs.declared.Event.TheVariants.{Trigger, PathFound, NoPath, Connect, Setup, FromParty, FromDomain, Ready, Expiry}
 use Rattle.events.specs.declared.Act.{Act}
 use Rattle.events.specs.declared.Node.{Node}
-use Rattle.events.specs.declared.Node.TheVariants.{Source, Destination}
+use Rattle.events.specs.declared.Node.TheVariants.{Destination}
 use Rattle.events.specs.declared.Act.TheVariants.{Opens, Meets}
-use Rattle.script_line.specs.declared.Parsed.{Parsed}
-use Rattle.script_line.specs.declared.Parsed.TheVariants.{Wordless, Told, Expected}
 use Rattle.script_line.specs.declared.Name.{Name}
 use Rattle.script_line.specs.declared.Name.TheVariants.{OpenName, TriggerName, PathName, NoPathName, ConnectName, SetupName}
 use Rattle.script_line.specs.declared.Name.TheVariants.{CallingName, CalledName, ReadyName, ExpiryName}
-use Rattle.script_line.specs.declared.Naming.{Naming}
-use Rattle.script_line.specs.declared.Naming.TheVariants.{NoName, Names}
 use Rattle.script_words.specs.declared.What.{What}
 use Rattle.script_words.specs.declared.What.TheVariants.{AnEvent, AKey, HardOrEnd, ASoftService, AConnection, YesOrNo, ASwitchover}
 use Rattle.script_words.specs.declared.What.TheVariants.{AnIncarnation, CauseOrEnd, ACause, CauseCrankbackOrEnd, CrankbackOrEnd}
 use Rattle.script_words.specs.declared.What.TheVariants.{NothingMore}
+
+-- a key and what is done with it; none, where there are no words; or what was expected
+abbrev pub Parsed : Type 0
+Parsed = Result (Option (ℕ × Act)) What
 
 -- the empty name tells that there is no word
 abbrev pub is_word : List ℕ → String → Bool
 is_word word name = same_text word (ascii name)
 
 -- an event that is only a key
-unfoldable pub plain_name : List ℕ → Naming
+unfoldable pub plain_name : List ℕ → Option Name
 plain_name word =
-    cond (is_word word "trigger") (Names TriggerName)
-    (cond (is_word word "path") (Names PathName)
-    (cond (is_word word "nopath") (Names NoPathName)
-    (cond (is_word word "ready") (Names ReadyName)
-    (cond (is_word word "expiry") (Names ExpiryName) NoName))))
+    cond (is_word word "trigger") (Some TriggerName)
+    (cond (is_word word "path") (Some PathName)
+    (cond (is_word word "nopath") (Some NoPathName)
+    (cond (is_word word "ready") (Some ReadyName)
+    (cond (is_word word "expiry") (Some ExpiryName) None))))
 
 -- an opening, or an event that may bring more than its key
-unfoldable pub full_name : List ℕ → Naming
+unfoldable pub full_name : List ℕ → Option Name
 full_name word =
-    cond (is_word word "open") (Names OpenName)
-    (cond (is_word word "connect") (Names ConnectName)
-    (cond (is_word word "setup") (Names SetupName)
-    (cond (is_word word "calling") (Names CallingName)
-    (cond (is_word word "called") (Names CalledName) NoName))))
+    cond (is_word word "open") (Some OpenName)
+    (cond (is_word word "connect") (Some ConnectName)
+    (cond (is_word word "setup") (Some SetupName)
+    (cond (is_word word "calling") (Some CallingName)
+    (cond (is_word word "called") (Some CalledName) None))))
 
 -- one name, or else another
-abbrev pub or_named : Naming → Naming → Naming
-or_named NoName other = other
-or_named (Names name) other = Names name
+abbrev pub or_named : Option Name → Option Name → Option Name
+or_named None other = other
+or_named (Some name) other = Some name
 
-unfoldable pub name_of : List ℕ → Naming
+unfoldable pub name_of : List ℕ → Option Name
 name_of word = or_named (plain_name word) (full_name word)
 
 -- nothing may follow
 unfoldable pub read_end : ℕ → Act → List ℕ → Parsed
-read_end key act rest = cond (is_word (first_word rest) "") (Told key act) (Expected NothingMore)
+read_end key act rest = cond (is_word (first_word rest) "") (Ok (Some (key, act))) (Err NothingMore)
 
 abbrev pub read_services : ℕ → Bool → Soft → List ℕ → Parsed
 read_services key hard soft rest = read_end key (Opens (Some (record { hard = hard; soft = soft }))) rest
@@ -68,30 +66,30 @@ unfoldable pub read_soft : ℕ → Bool → List ℕ → Parsed
 read_soft key hard rest =
     cond (is_word (first_word rest) "none") (read_services key hard NoSoft (after_word rest))
     (cond (is_word (first_word rest) "asymmetric") (read_services key hard Asymmetric (after_word rest))
-    (cond (is_word (first_word rest) "symmetric") (read_services key hard Symmetric (after_word rest)) (Expected ASoftService)))
+    (cond (is_word (first_word rest) "symmetric") (read_services key hard Symmetric (after_word rest)) (Err ASoftService)))
 
 unfoldable pub read_open : ℕ → List ℕ → Parsed
 read_open key rest =
-    cond (is_word (first_word rest) "") (Told key (Opens None))
+    cond (is_word (first_word rest) "") (Ok (Some (key, Opens None)))
     (cond (is_word (first_word rest) "hard") (read_soft key true (after_word rest))
-    (cond (is_word (first_word rest) "nohard") (read_soft key false (after_word rest)) (Expected HardOrEnd)))
+    (cond (is_word (first_word rest) "nohard") (read_soft key false (after_word rest)) (Err HardOrEnd)))
 
 unfoldable pub read_policy : ℕ → ℕ → List ℕ → Parsed
 read_policy key connection rest =
     cond (is_word (first_word rest) "yes") (read_end key (Meets (Connect connection true)) (after_word rest))
-    (cond (is_word (first_word rest) "no") (read_end key (Meets (Connect connection false)) (after_word rest)) (Expected YesOrNo))
+    (cond (is_word (first_word rest) "no") (read_end key (Meets (Connect connection false)) (after_word rest)) (Err YesOrNo))
 
 -- a number, and then what depends on it
-abbrev pub with_number : Reading → What → (ℕ → Parsed) → Parsed
-with_number NoNumber what further = Expected what
-with_number (Counts n) what further = further n
+abbrev pub with_number : Option ℕ → What → (ℕ → Parsed) → Parsed
+with_number None what further = Err what
+with_number (Some n) what further = further n
 
 unfoldable pub read_connect : ℕ → List ℕ → Parsed
 read_connect key rest = with_number (number_up_to 65535 (first_word rest)) AConnection (λ n. read_policy key n (after_word rest))
 
 -- a switchover by its name or its number
-unfoldable pub read_code : List ℕ → Reading
-read_code word = cond (is_word word "clearing") (Counts 1) (cond (is_word word "immediate") (Counts 0) (number_up_to 255 word))
+unfoldable pub read_code : List ℕ → Option ℕ
+read_code word = cond (is_word word "clearing") (Some 1) (cond (is_word word "immediate") (Some 0) (number_up_to 255 word))
 
 unfoldable pub read_incarnation : ℕ → ℕ → List ℕ → Parsed
 read_incarnation key code rest =
@@ -108,16 +106,16 @@ read_calling_cause key rest =
 
 unfoldable pub read_calling : ℕ → List ℕ → Parsed
 read_calling key rest =
-    cond (is_word (first_word rest) "") (Told key (Meets (FromParty None)))
-    (cond (is_word (first_word rest) "cause") (read_calling_cause key (after_word rest)) (Expected CauseOrEnd))
+    cond (is_word (first_word rest) "") (Ok (Some (key, Meets (FromParty None))))
+    (cond (is_word (first_word rest) "cause") (read_calling_cause key (after_word rest)) (Err CauseOrEnd))
 
 -- the crankback of a release, or nothing; what else was expected depends on what stands before
 unfoldable pub read_crankback : ℕ → ℕ → Option ReroutingCause → What → List ℕ → Parsed
 read_crankback key connection cause what rest =
-    cond (is_word (first_word rest) "") (Told key (Meets (FromDomain connection cause NoCrankback)))
+    cond (is_word (first_word rest) "") (Ok (Some (key, Meets (FromDomain connection cause NoCrankback))))
     (cond (is_word (first_word rest) "alternate") (read_end key (Meets (FromDomain connection cause AlternateFound)) (after_word rest))
     (cond (is_word (first_word rest) "noalternate") (read_end key (Meets (FromDomain connection cause NoAlternate)) (after_word rest))
-    (Expected what)))
+    (Err what)))
 
 unfoldable pub read_called_cause : ℕ → ℕ → List ℕ → Parsed
 read_called_cause key connection rest =
@@ -150,22 +148,13 @@ read_keyed name rest = with_number (number_up_to 4294967295 (first_word rest)) A
 
 -- the name of a release at an end: at the destination it is the calling side's that names a connection
 abbrev pub name_at : Name → Node → Name
-name_at OpenName node = OpenName
-name_at TriggerName node = TriggerName
-name_at PathName node = PathName
-name_at NoPathName node = NoPathName
-name_at ConnectName node = ConnectName
-name_at SetupName node = SetupName
-name_at CallingName Source = CallingName
 name_at CallingName Destination = CalledName
-name_at CalledName Source = CalledName
 name_at CalledName Destination = CallingName
-name_at ReadyName node = ReadyName
-name_at ExpiryName node = ExpiryName
+name_at name _ = name
 
-abbrev pub read_named : Node → Naming → List ℕ → Parsed
-read_named node NoName rest = Expected AnEvent
-read_named node (Names name) rest = read_keyed (name_at name node) rest
+abbrev pub read_named : Node → Option Name → List ℕ → Parsed
+read_named node None rest = Err AnEvent
+read_named node (Some name) rest = read_keyed (name_at name node) rest
 
 unfoldable pub parsed_of : Node → List ℕ → Parsed
-parsed_of node line = cond (is_word (first_word line) "") Wordless (read_named node (name_of (first_word line)) (after_word line))
+parsed_of node line = cond (is_word (first_word line) "") (Ok None) (read_named node (name_of (first_word line)) (after_word line))
