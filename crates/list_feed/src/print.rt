@@ -5,6 +5,7 @@ ghost use Rattle.list_feed.specs.Line.{listed_text, list_name, record_text, bad_
 
 use event_fault::Fault;
 use events::{Act, Node};
+use streams::Failure;
 
 pub(crate) fn put_line(
     out: &mut [u8],
@@ -32,9 +33,12 @@ fn put_name(out: &mut [u8], at: usize, node: Node) -> usize
     }
 }
 
-pub(crate) fn put_failure(out: &mut [u8], at: usize, node: Node, what: &[u8]) -> usize {
+pub(crate) fn put_failure(out: &mut [u8], at: usize, node: Node, failure: Failure) -> usize {
     let named = put_name(out, at, node);
-    lines::put_word(out, named, what)
+    match failure {
+        Failure::Reading => lines::put_word(out, named, b": reading fails\n"),
+        Failure::Writing => lines::put_word(out, named, b": writing fails\n"),
+    }
 }
 
 fn put_record(out: &mut [u8], at: usize, node: Node, count: u64) -> usize

@@ -1,9 +1,6 @@
--- The measure is the number of turns that are left; the buffers stay as long as they are.
-use Rattle.std.proofs.Common.{◌≡◌, length}
+-- The buffers stay as long as they are, and less than a record is kept.
+use Rattle.std.proofs.Common.{◌≡◌, ◌<◌, length}
 use Rattle.list_feed.proofs.serve.Given as goal
 
-abbrev pub invariant-loop-turns : goal.invariant-loop-turns
-invariant-loop-turns l = (length l.input ≡ 65536) × (length l.output ≡ 65536)
-
-abbrev pub decreases-loop-turns : goal.decreases-loop-turns
-decreases-loop-turns l = l.turns
+abbrev pub invariant-loop : goal.invariant-loop
+invariant-loop l = (length l.input ≡ 65536) × (length l.output ≡ 65536) × (l.progress.kept < 16)
