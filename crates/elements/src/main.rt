@@ -7,53 +7,41 @@ mod print;
 
 use signal::{CauseCode, Kind, ReroutingCause, SentCause, Signal};
 use std::io::{Stdin, Stdout};
-use streams::Failure;
+use streams::Stop;
 
-// Why nothing more is read.
-#[derive(Clone, Copy)]
-enum Stop {
-    Ended,
-    Bad,
-    Fails,
-}
-
-impl From<Failure> for Stop {
-    fn from(_failure: Failure) -> Stop {
-        Stop::Fails
+fn main(rt: HostRuntime) {
+    let mut stdout = rt.stdout();
+    if let Err(Stop::Bad) = run(rt.stdin(), stdout) {
+        // where this fails too, nothing more was to be written
+        let _ = streams::write_all(&mut stdout, b"bad\n");
     }
 }
 
-// A loop has to end, and nothing says that the input does: so the cases are counted, up to a number that no run reaches.
-fn main(rt: HostRuntime) {
-    let stdin = rt.stdin();
-    let stdout = rt.stdout();
+// To the end of the input. A loop has to end, and nothing says that the input does: so the cases are counted, up to a number that no run
+// reaches.
+fn run(mut stdin: Stdin, stdout: Stdout) -> Result<(), Stop> {
     let mut received: [u8; 65536] = streams::zeros();
     let mut own: [u8; 65536] = streams::zeros();
     for _ in 0..u64::MAX {
-        match answer(stdin, stdout, &mut received, &mut own) {
-            Ok(()) => {}
-            Err(Stop::Bad) => return print::bad(stdout),
-            Err(Stop::Ended | Stop::Fails) => return,
+        let mut head = [0u8; 5];
+        match streams::read_full(&mut stdin, &mut head) {
+            0 => break,
+            1..=4 => return Err(Stop::Bad),
+            _ => answer(stdin, stdout, head, &mut received, &mut own)?,
         }
     }
+    Ok(())
 }
 
-// Reads a case, and prints its line.
+// Reads the rest of a case, and prints its line.
 fn answer(
     mut stdin: Stdin,
     stdout: Stdout,
+    head: [u8; 5],
     received: &mut [u8],
     own: &mut [u8],
 ) -> Result<(), Stop> {
-    let mut head = [0u8; 5];
-    let got = streams::read_full(&mut stdin, &mut head);
-    if got == 0 {
-        return Err(Stop::Ended);
-    }
     let [number, given, cause, high, low] = head;
-    if got < 5 {
-        return Err(Stop::Bad);
-    }
     let signal = signal(number, given, cause).ok_or(Stop::Bad)?;
     let received = string(stdin, [high, low], received)?;
     let mut length = [0u8; 2];

@@ -7,11 +7,6 @@ use streams::Failure;
 // In lower case.
 const DIGITS: [u8; 16] = *b"0123456789abcdef";
 
-// Where this fails, nothing more was to be written.
-pub(crate) fn bad(mut stdout: Stdout) {
-    let _ = streams::write_all(&mut stdout, b"bad\n");
-}
-
 // The string that the part is of, its length, and its octets.
 pub(crate) fn part(mut stdout: Stdout, string: Names, octets: &[u8]) -> Result<(), Failure> {
     let mut out: [u8; 4096] = streams::zeros();

@@ -7,12 +7,10 @@
 
 mod print;
 
-ghost use Rattle.std.specs.Prelude.{◌<◌, IfOk, IfSome};
-
 use event_record::Request;
 use events::Node;
 use std::io::{Stderr, Stdin, Stdout};
-use streams::Failure;
+use streams::{Failure, Stop};
 
 // Where a program reads and writes, and whose records it lists.
 #[derive(Clone, Copy)]
@@ -23,14 +21,6 @@ struct Console {
     node: Node,
 }
 
-// How far a run is: the records that are listed, and the octets at the front of the buffer that are no whole record yet.
-#[derive(Clone, Copy)]
-struct Progress {
-    listed: u64,
-    kept: usize,
-}
-
-// A loop has to end, and nothing says that the input does: so the turns are counted, up to a number that no run reaches.
 pub fn serve(rt: HostRuntime, node: Node) {
     let console = Console {
         stdin: rt.stdin(),
@@ -40,48 +30,34 @@ pub fn serve(rt: HostRuntime, node: Node) {
     };
     let mut input: [u8; 65536] = streams::zeros();
     let mut output: [u8; 65536] = streams::zeros();
-    let mut progress = Progress { listed: 0, kept: 0 };
-    for _ in 0..u64::MAX {
-        match console.turn(&mut input, &mut output, progress) {
-            Ok(Some(after)) => progress = after,
-            Ok(None) => return,
-            Err(failure) => return console.complain(failure),
-        }
+    if let Err(Stop::Fails(failure)) = console.run(&mut input, &mut output) {
+        console.complain(failure);
     }
 }
 
 impl Console {
-    // One read, and the lines of the records that are whole with it. None where the run ends: behind the input, and at a bad record.
+    // To the end of the input, or to a bad record, which is told. A loop has to end, and nothing says that the input does: so the reads are
+    // counted, up to a number that no run reaches.
     #[tactic(auto, using(event_record::proofs::Buffer::rest_short))]
-    fn turn(
-        mut self,
-        input: &mut [u8; 65536],
-        output: &mut [u8],
-        before: Progress,
-    ) -> Result<Option<Progress>, Failure>
-        requires { before.kept < 16 }
-        ensures { IfOk result (λ more. IfSome more (λ after. after.kept < 16)) }
-    {
-        let came = streams::read_some(&mut self.stdin, &mut input[before.kept..])?;
-        if came == 0 {
-            self.finish(output, before);
-            return Ok(None);
+    fn run(mut self, input: &mut [u8; 65536], output: &mut [u8]) -> Result<(), Stop> {
+        // the records that are listed, and the octets at the front of the buffer that are no whole record yet
+        let mut listed = 0;
+        let mut kept = 0;
+        for _ in 0..u64::MAX {
+            let came = streams::read_some(&mut self.stdin, &mut input[kept..])?;
+            if came == 0 {
+                self.finish(output, listed, kept);
+                break;
+            }
+            let have = kept + came;
+            listed = self.list_whole(&input[..have], output, listed)?;
+            kept = event_record::keep_rest(input, have);
         }
-        let have = before.kept + came;
-        let Some(listed) = self.list_whole(&input[..have], output, before.listed)? else {
-            return Ok(None);
-        };
-        let kept = event_record::keep_rest(input, have);
-        Ok(Some(Progress { listed, kept }))
+        Ok(())
     }
 
-    // The records that are whole among the octets: how many are listed with them. None at a bad one.
-    fn list_whole(
-        mut self,
-        octets: &[u8],
-        output: &mut [u8],
-        listed: u64,
-    ) -> Result<Option<u64>, Failure> {
+    // The records that are whole among the octets: how many are listed with them.
+    fn list_whole(mut self, octets: &[u8], output: &mut [u8], listed: u64) -> Result<u64, Stop> {
         let mut count = listed;
         let mut at = 0;
         for index in 0..octets.len() / 16 {
@@ -91,7 +67,7 @@ impl Console {
             let Request::Asks(act) = decoded.request else {
                 streams::write_first(&mut self.stdout, output, at)?;
                 self.refuse(output, count, record);
-                return Ok(None);
+                return Err(Stop::Bad);
             };
             at = print::put_line(output, at, self.node, count, decoded.key, act);
             if 65000 < at {
@@ -100,7 +76,7 @@ impl Console {
             }
         }
         streams::write_first(&mut self.stdout, output, at)?;
-        Ok(Some(count))
+        Ok(count)
     }
 
     // What is wrong with a bad record.
@@ -111,10 +87,10 @@ impl Console {
     }
 
     // The end of the input, which may cut a record short.
-    fn finish(self, output: &mut [u8], last: Progress) {
-        if last.kept != 0 {
-            let count = last.listed.saturating_add(1);
-            let length = print::put_short(output, 0, self.node, count, last.kept as u64);
+    fn finish(self, output: &mut [u8], listed: u64, kept: usize) {
+        if kept != 0 {
+            let count = listed.saturating_add(1);
+            let length = print::put_short(output, 0, self.node, count, kept as u64);
             self.tell(output, length);
         }
     }

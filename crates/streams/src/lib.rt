@@ -16,6 +16,19 @@ pub enum Failure {
     Writing,
 }
 
+// Why a program stops before its input ends: what came is bad, or reading or writing fails.
+#[derive(Clone, Copy)]
+pub enum Stop {
+    Bad,
+    Fails(Failure),
+}
+
+impl From<Failure> for Stop {
+    fn from(failure: Failure) -> Stop {
+        Stop::Fails(failure)
+    }
+}
+
 // A buffer of zeros.
 pub fn zeros<const N: usize>() -> [u8; N]
     ensures room { N ≡ length result }

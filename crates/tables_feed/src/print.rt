@@ -8,11 +8,6 @@ use streams::Failure;
 // More than a line of a record, or of a case, takes.
 const LINE: usize = 256;
 
-// Where this fails, nothing more was to be written.
-pub(crate) fn bad(mut stdout: Stdout) {
-    let _ = streams::write_all(&mut stdout, b"bad\n");
-}
-
 // The line of the case, and a line for each record.
 pub(crate) fn table(
     mut stdout: Stdout,
