@@ -8,7 +8,7 @@ ghost use Rattle.std.specs.Prelude.{◌≡◌};
 ghost use Rattle.lines.specs.Lines.{page, put_text};
 ghost use Rattle.event_words.specs.Words.{then_number, hard_text, soft_text, wanted_text, policy_text, switchover_text};
 ghost use Rattle.event_words.specs.Words.{received_cause_text, crankback_text, party_text, domain_text, event_name, name_text};
-ghost use Rattle.event_words.specs.Words.{values_text, keyless_text, brought_text, event_text};
+ghost use Rattle.event_words.specs.Words.{values_text, keyless_text, brought_text, event_text, program_text};
 ghost use Rattle.events.specs.declared.Event.TheVariants.{Connect, Setup, FromDomain};
 
 use events::{Act, Event, Node};
@@ -200,6 +200,19 @@ fn put_brought(out: &mut [u8], at: usize, act: Act) -> usize
     match act {
         Act::Opens(wanted) => put_wanted(out, at, wanted),
         Act::Meets(event) => put_values(out, at, event),
+    }
+}
+
+// The name of a program, which at the destination node begins with that node's.
+pub fn put_program(out: &mut [u8], at: usize, node: Node, name: &[u8]) -> usize
+    ensures { page out.new result ≡ put_text (page out.old at) (program_text node name.now) }
+{
+    match node {
+        Node::Source => lines::put_word(out, at, name),
+        Node::Destination => {
+            let place = lines::put_word(out, at, b"destination_");
+            lines::put_word(out, place, name)
+        }
     }
 }
 

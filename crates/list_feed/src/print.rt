@@ -1,7 +1,7 @@
 // The line of a record, and what is told of one that is bad or cut short, in a lent buffer.
 ghost use Rattle.std.specs.Prelude.{◌≡◌};
 ghost use Rattle.lines.specs.Lines.{page, put_text};
-ghost use Rattle.list_feed.specs.Line.{listed_text, list_name, record_text, bad_record_text, short_record_text};
+ghost use Rattle.list_feed.specs.Line.{listed_text, record_text, bad_record_text, short_record_text};
 
 use event_fault::Fault;
 use events::{Act, Node};
@@ -23,28 +23,15 @@ pub(crate) fn put_line(
     lines::put_word(out, counted, b"\n")
 }
 
-// The program's own name, which begins every line on standard error.
-fn put_name(out: &mut [u8], at: usize, node: Node) -> usize
-    ensures { page out.new result ≡ put_text (page out.old at) (list_name node) }
-{
-    match node {
-        Node::Source => lines::put_word(out, at, b"list"),
-        Node::Destination => lines::put_word(out, at, b"destination_list"),
-    }
-}
-
 pub(crate) fn put_failure(out: &mut [u8], at: usize, node: Node, failure: Failure) -> usize {
-    let named = put_name(out, at, node);
-    match failure {
-        Failure::Reading => lines::put_word(out, named, b": reading fails\n"),
-        Failure::Writing => lines::put_word(out, named, b": writing fails\n"),
-    }
+    let named = event_words::put_program(out, at, node, b"list");
+    lines::put_word(out, named, &failure.told())
 }
 
 fn put_record(out: &mut [u8], at: usize, node: Node, count: u64) -> usize
     ensures { page out.new result ≡ put_text (page out.old at) (record_text node count) }
 {
-    let named = put_name(out, at, node);
+    let named = event_words::put_program(out, at, node, b"list");
     let placed = lines::put_word(out, named, b": record ");
     let counted = lines::put_number(out, placed, count);
     lines::put_word(out, counted, b": ")

@@ -1,35 +1,23 @@
 // The line on standard error where a run ends early (docs/BENCH.md, "script"), in a lent buffer.
 ghost use Rattle.std.specs.Prelude.{◌≡◌};
 ghost use Rattle.lines.specs.Lines.{page, put_text};
-ghost use Rattle.script_feed.specs.Complaint.{script_name, complaint_start, complaint_text, too_long_text};
+ghost use Rattle.script_feed.specs.Complaint.{complaint_start, complaint_text, too_long_text};
 
+use event_words::put_program;
 use events::Node;
 use lines::{put_number, put_word};
 use script_words::{What, put_what};
 use streams::Failure;
 
-// The program's own name, which begins every line on standard error.
-fn put_name(out: &mut [u8], at: usize, node: Node) -> usize
-    ensures { page out.new result ≡ put_text (page out.old at) (script_name node) }
-{
-    match node {
-        Node::Source => put_word(out, at, b"script"),
-        Node::Destination => put_word(out, at, b"destination_script"),
-    }
-}
-
 pub(crate) fn put_failure(out: &mut [u8], at: usize, node: Node, failure: Failure) -> usize {
-    let named = put_name(out, at, node);
-    match failure {
-        Failure::Reading => put_word(out, named, b": reading fails\n"),
-        Failure::Writing => put_word(out, named, b": writing fails\n"),
-    }
+    let begun = put_program(out, at, node, b"script");
+    put_word(out, begun, &failure.told())
 }
 
 fn put_line(out: &mut [u8], at: usize, node: Node, number: u64) -> usize
     ensures { page out.new result ≡ put_text (page out.old at) (complaint_start node number) }
 {
-    let named = put_name(out, at, node);
+    let named = put_program(out, at, node, b"script");
     let placed = put_word(out, named, b": line ");
     let numbered = put_number(out, placed, number);
     put_word(out, numbered, b": expected ")

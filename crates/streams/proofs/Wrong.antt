@@ -25,6 +25,8 @@ use Rattle.std.specs.declared.io.traits.Read as Read
 use Rattle.std.specs.declared.io.traits.Write as Write
 use Rattle.streams.specs.declared.Failure.{Failure}
 use Rattle.streams.specs.declared.Failure.TheVariants.{Reading, Writing}
+use Rattle.streams.specs.Streams.{told_of}
+use Rattle.streams.specs.contracts.Failure.told as Failure-told
 use Rattle.streams.specs.contracts.read_some as read_some
 use Rattle.streams.specs.contracts.read_full as read_full
 use Rattle.streams.specs.contracts.write_all as write_all
@@ -55,6 +57,20 @@ module _ {M : Type 1} {𝓤 : Ura M} (𝓛 : Logic 𝓤) (memory : Memory → SP
 
   second_fails : (P Q : Type 0) → (Q → ⊥) → NeverHolds (sep 𝓤 (fact 𝓤 P) (fact 𝓤 Q))
   second_fails P Q wrong = via 𝓤 (fact 𝓤 Q) (snd∗ 𝓤 (fact 𝓤 P) (fact 𝓤 Q)) (fact_mono 𝓤 Q ⊥ wrong)
+
+  -- Failure::told: of a failure, the octets that are told
+  abbrev Failure-told_shuts_out : Failure → List ℕ → Type 1
+  Failure-told_shuts_out failure r =
+      (κs : Lfts 0) → NeverHolds ((Failure-told.clauses 𝓛 memory run κs (failure, tt)).ensures tt r (failure, tt))
+
+  -- a read is no write
+  pub reading_told_as_writing : Failure-told_shuts_out Reading (told_of Writing)
+  reading_told_as_writing κs = fact_mono 𝓤 _ _ (λ h.
+      let z : ◌≡◌ {A = ℕ} 119 114 = ap (λ (xs : List ℕ). get_or xs 2 0) h in omega arith)
+
+  -- the line ends there
+  pub line_goes_on : (r : List ℕ) → get_or r 15 0 ≡ 32 → Failure-told_shuts_out Writing r
+  line_goes_on r blank κs = fact_mono 𝓤 _ _ (λ h. let z : ◌≡◌ {A = ℕ} (get_or r 15 0) 10 = ap (λ (xs : List ℕ). get_or xs 15 0) h in omega arith)
 
   -- zeros: of a number of octets, those answered
   abbrev zeros_shuts_out : RattleType → List ℕ → Type 1

@@ -1,8 +1,13 @@
 -- What a read and a write do to the octets that a stream has, where those are known (`None`: they are not).
-use Rattle.std.specs.Prelude.{ℕ, Option, Result, Err, List, ◌≡◌, ◌<◌, ◌≤◌, length, take, MatchResult}
+use Rattle.std.specs.Prelude.{ℕ, Option, Result, Err, List, [], ◌∷◌, ◌++◌, codes, ◌≡◌, ◌<◌, ◌≤◌, length, take, MatchResult}
 use Rattle.std.specs.Io.KnownBytes.{Appends, Consumes, IsAtEnd, Keeps}
 use Rattle.streams.specs.declared.Failure.{Failure}
 use Rattle.streams.specs.declared.Failure.TheVariants.{Reading, Writing}
+
+-- what is told of a failure, a line to its end
+abbrev pub told_of : Failure → List ℕ
+told_of Reading = codes ": reading fails" ++ 10 ∷ []
+told_of Writing = codes ": writing fails" ++ 10 ∷ []
 
 -- the first n of xs are n
 abbrev pub IsFrontLen : ℕ → List ℕ → Type 0

@@ -5,7 +5,7 @@
 
 ghost use Rattle.std.specs.Prelude.{◌≡◌, length, replicate, take, IfOk};
 ghost use Rattle.std.specs.Io.KnownBytes.{Consumes};
-ghost use Rattle.streams.specs.Streams.{IsFrontLen, ReadsSome, WritesAll, WritesFirst};
+ghost use Rattle.streams.specs.Streams.{told_of, IsFrontLen, ReadsSome, WritesAll, WritesFirst};
 
 use std::io::{Read, Write};
 
@@ -14,6 +14,18 @@ use std::io::{Read, Write};
 pub enum Failure {
     Reading,
     Writing,
+}
+
+impl Failure {
+    // What is told of it, behind the name of a program.
+    pub fn told(self) -> [u8; 16]
+        ensures { result ≡ told_of self }
+    {
+        match self {
+            Failure::Reading => *b": reading fails\n",
+            Failure::Writing => *b": writing fails\n",
+        }
+    }
 }
 
 // Why a program stops before its input ends: what came is bad, or reading or writing fails.

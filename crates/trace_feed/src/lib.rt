@@ -83,10 +83,7 @@ impl Console<'_> {
     fn complain(mut self, failure: Failure) {
         let mut line = [0u8; 64];
         let named = lines::put_word(&mut line, 0, self.name);
-        let told = match failure {
-            Failure::Reading => lines::put_word(&mut line, named, b": reading fails\n"),
-            Failure::Writing => lines::put_word(&mut line, named, b": writing fails\n"),
-        };
+        let told = lines::put_word(&mut line, named, &failure.told());
         let _ = streams::write_first(&mut self.stderr, &line, told);
     }
 }
