@@ -12,50 +12,52 @@ mod line;
 use events::Node;
 use rows::State;
 use std::io::{Stdin, Stdout};
+use streams::Failure;
 
-// A loop has to end, and nothing says that the input does: so the turns are counted down, from a number that no run uses up.
+// Where lines go, and of which end they are. A method that prints fails as soon as a write does, and then nothing more is written.
+#[derive(Clone, Copy)]
+pub(crate) struct Console {
+    pub(crate) stdout: Stdout,
+    pub(crate) node: Node,
+}
+
 pub fn serve(rt: HostRuntime, node: Node) {
-    let stdin = rt.stdin();
     let stdout = rt.stdout();
-    let mut turns = u64::MAX;
-    while turns > 0 && print_some(stdin, stdout, node) {
-        turns -= 1;
-    }
+    // where reading or writing fails, the run ends, and nothing is told
+    let _ = run(rt.stdin(), Console { stdout, node });
 }
 
-// Reads once, and prints what came. False at the end of the input, and where a read or a write fails.
-fn print_some(mut stdin: Stdin, stdout: Stdout, node: Node) -> bool {
-    let mut letters = streams::buffer();
-    match streams::read_some(&mut stdin, &mut letters) {
-        None | Some(0) => false,
-        Some(count) => print_letters(stdout, node, &letters[..count]),
-    }
-}
-
-fn print_letters(stdout: Stdout, node: Node, letters: &[u8]) -> bool {
-    let mut index: usize = 0;
-    while index < letters.len() {
-        if !print_letter(stdout, node, letters[index]) {
-            return false;
+// To the end of the input: what a read brings is printed before the next. A loop has to end, and nothing says that the input does: so the
+// reads are counted, up to a number that no run reaches.
+fn run(mut stdin: Stdin, console: Console) -> Result<(), Failure> {
+    let mut letters: [u8; 4096] = streams::zeros();
+    for _ in 0..u64::MAX {
+        let count = streams::read_some(&mut stdin, &mut letters)?;
+        if count == 0 {
+            break;
         }
-        index += 1;
+        for letter in &letters[..count] {
+            console.print_letter(*letter)?;
+        }
     }
-    true
+    Ok(())
 }
 
-// Where a state holds them, 3 is the incumbent and 5 the rerouting connection.
-fn print_letter(stdout: Stdout, node: Node, letter: u8) -> bool {
-    match letter {
-        b'0' => cells::print_state(stdout, node, State::Null),
-        b'1' => cells::print_state(stdout, node, State::Idle(3)),
-        b'2' => cells::print_state(stdout, node, State::HardWaiting),
-        b'3' => cells::print_state(stdout, node, State::HardUnderway(5)),
-        b'4' => cells::print_state(stdout, node, State::SoftTriggered(3)),
-        b'5' => cells::print_state(stdout, node, State::SoftProceeding(3, 5)),
-        b'6' => cells::print_state(stdout, node, State::SoftInitiated(3, 5)),
-        b'7' => cells::print_state(stdout, node, State::Awaiting(3, 5)),
-        b'o' => cells::print_openings(stdout, node),
-        b'b' => bench::print_run(stdout, node),
-        _ => true,
+impl Console {
+    // Where a state holds them, 3 is the incumbent and 5 the rerouting connection.
+    fn print_letter(self, letter: u8) -> Result<(), Failure> {
+        match letter {
+            b'0' => self.print_state(State::Null),
+            b'1' => self.print_state(State::Idle(3)),
+            b'2' => self.print_state(State::HardWaiting),
+            b'3' => self.print_state(State::HardUnderway(5)),
+            b'4' => self.print_state(State::SoftTriggered(3)),
+            b'5' => self.print_state(State::SoftProceeding(3, 5)),
+            b'6' => self.print_state(State::SoftInitiated(3, 5)),
+            b'7' => self.print_state(State::Awaiting(3, 5)),
+            b'o' => self.print_openings(),
+            b'b' => self.print_run(),
+            _ => Ok(()),
+        }
     }
 }

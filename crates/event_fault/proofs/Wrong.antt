@@ -32,7 +32,7 @@ abbrev lent_mut : {X : Type 0} → X → MutBor X
 lent_mut xs = record { ref_ptr = (0, 0); ghost_name = 0; now = xs }
 
 -- the octet that a fault tells; 0 where there is none
-octet_told : Option Fault → ℕ
+abbrev octet_told : Option Fault → ℕ
 octet_told None = 0
 octet_told (Some f) = f.octet
 

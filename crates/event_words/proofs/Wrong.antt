@@ -12,12 +12,14 @@ use base.Logic.{SProp, ent}
 use contract.Lifetimes.{Lfts}
 use contract.Monad.{Fun, fact, fact_mono}
 use denote.MutBor.{MutBor}
+use denote.Ref.{Bor}
 use types.Logic.{Logic}
 use prog.Memory.{Memory}
 use prog.Routine.{Routine}
 use Rattle.events.specs.declared.Act.TheVariants.{Meets}
 use Rattle.events.specs.declared.Act.{Act}
-use Rattle.events.specs.declared.Node.TheVariants.{Source}
+use Rattle.events.specs.declared.Node.{Node}
+use Rattle.events.specs.declared.Node.TheVariants.{Source, Destination}
 use Rattle.events.specs.declared.Event.{Event}
 use Rattle.events.specs.declared.Event.TheVariants.{Connect, Setup}
 use Rattle.lines.specs.Line.{with_text}
@@ -26,10 +28,14 @@ use Rattle.lines.proofs.Lines.{line_of}
 use Rattle.lines.specs.Lines.{ascii, put_byte, put_text, spelled, number_text}
 use Rattle.event_words.specs.contracts.put_event as put_event
 use Rattle.event_words.specs.contracts.put_keyless as put_keyless
+use Rattle.event_words.specs.contracts.put_program as put_program
 
 -- something that is lent to be changed; where it stands says nothing here
 abbrev lent_mut : {X : Type 0} → X → MutBor X
 lent_mut xs = record { ref_ptr = (0, 0); ghost_name = 0; now = xs }
+
+abbrev lent : {X : Type 0} → X → Bor X
+lent xs = record { ref_ptr = (0, 0); now = xs }
 
 module _ {M : Type 1} {𝓤 : Ura M} (𝓛 : Logic 𝓤) (memory : Memory → SProp 𝓤) (run : Routine → Fun 𝓤) where
   -- it is false: the logic proves falsity from it
@@ -70,3 +76,22 @@ module _ {M : Type 1} {𝓤 : Ura M} (𝓛 : Logic 𝓤) (memory : Memory → SP
   unfolding with_text put_byte put_text spelled number_text
   policy_told_before_the_connection r κs =
       fact_mono 𝓤 _ _ (λ h. let z : ◌≡◌ {A = ℕ} 121 _ = ap (λ (l : Line). get_or l.buffer.now 8 0) h in omega arith)
+
+  -- put_program: of a line, by its buffer and its place, an end and a name, the place where the line goes on, and what is left in its buffer
+  abbrev put_program_shuts_out : List ℕ → ℕ → Node → List ℕ → ℕ → List ℕ → Type 1
+  put_program_shuts_out out at node name r left =
+      (κs : Lfts 3) → NeverHolds ((put_program.clauses 𝓛 memory run κs (lent_mut (line_of out at), (node, (lent name, tt)))
+      ).ensures tt tt (lent_mut (line_of left r), (node, (lent name, tt))))
+
+  -- the destination's programs are named after it
+  pub destinations_program_named_as_the_sources : (r : ℕ) → put_program_shuts_out (replicate 4 0) 0 Destination (ascii "list") r (ascii "list")
+  unfolding with_text put_byte put_text
+  destinations_program_named_as_the_sources r κs =
+      fact_mono 𝓤 _ _ (λ h. let z : ◌≡◌ {A = ℕ} 108 _ = ap (λ (l : Line). get_or l.buffer.now 0 0) h in omega arith)
+
+  -- the source's are not
+  pub sources_program_named_as_the_destinations : (r : ℕ) →
+      put_program_shuts_out (replicate 16 0) 0 Source (ascii "list") r (ascii "destination_list")
+  unfolding with_text put_byte put_text
+  sources_program_named_as_the_destinations r κs =
+      fact_mono 𝓤 _ _ (λ h. let z : ◌≡◌ {A = ℕ} 100 _ = ap (λ (l : Line). get_or l.buffer.now 0 0) h in omega arith)

@@ -98,3 +98,8 @@ brought_text (Meets e) = values_text e
 
 abbrev pub event_text : Node → ℕ → Act → List ℕ
 event_text node key act = name_text node act ++ (then_number key ++ brought_text act)
+
+-- the name of a program: at the destination node that node's stands before it
+abbrev pub program_text : Node → List ℕ → List ℕ
+program_text Source name = name
+program_text Destination name = ascii "destination_" ++ name

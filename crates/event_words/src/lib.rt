@@ -8,7 +8,7 @@ ghost use Rattle.std.specs.Prelude.{◌≡◌};
 ghost use Rattle.lines.specs.Line.{with_text};
 ghost use Rattle.event_words.specs.Words.{then_number, hard_text, soft_text, wanted_text, policy_text, switchover_text};
 ghost use Rattle.event_words.specs.Words.{received_cause_text, crankback_text, party_text, domain_text, event_name, name_text};
-ghost use Rattle.event_words.specs.Words.{values_text, keyless_text, brought_text, event_text};
+ghost use Rattle.event_words.specs.Words.{values_text, keyless_text, brought_text, event_text, program_text};
 ghost use Rattle.events.specs.declared.Event.TheVariants.{Connect, Setup, FromDomain};
 
 use events::{Act, Event, Node};
@@ -190,6 +190,16 @@ fn put_brought(line: &mut Line, act: Act)
         Act::Opens(wanted) => put_wanted(line, wanted),
         Act::Meets(event) => put_values(line, event),
     }
+}
+
+// The name of a program, which at the destination node begins with that node's.
+pub fn put_program(line: &mut Line, node: Node, name: &[u8])
+    ensures { line.new ≡ with_text line.old (program_text node name.now) }
+{
+    if let Node::Destination = node {
+        line.put_word(b"destination_");
+    }
+    line.put_word(name);
 }
 
 // A line of `script`, without its end.

@@ -2,11 +2,10 @@
 use Rattle.std.specs.Prelude.{ℕ, List, ◌++◌}
 use Rattle.lines.specs.Lines.{ascii, number_text, new_line}
 use Rattle.events.specs.declared.Node.{Node}
-use Rattle.events.specs.declared.Node.TheVariants.{Source, Destination}
 use Rattle.events.specs.declared.Act.{Act}
 use Rattle.event_fault.specs.Words.{fault_text}
 use Rattle.event_fault.specs.declared.Fault.{Fault}
-use Rattle.event_words.specs.Words.{event_text}
+use Rattle.event_words.specs.Words.{event_text, program_text}
 
 -- the record with this count: its line of `script`, two blanks, and the count as a comment
 abbrev pub listed_text : Node → ℕ → ℕ → Act → List ℕ
@@ -14,8 +13,7 @@ listed_text node count key act = event_text node key act ++ (ascii "  # " ++ (nu
 
 -- the program's own name
 abbrev pub list_name : Node → List ℕ
-list_name Source = ascii "list"
-list_name Destination = ascii "destination_list"
+list_name node = program_text node (ascii "list")
 
 abbrev pub record_text : Node → ℕ → List ℕ
 record_text node count = list_name node ++ (ascii ": record " ++ (number_text count ++ ascii ": "))

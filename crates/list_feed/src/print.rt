@@ -1,65 +1,57 @@
-// The line of a record, and what is told of one that is bad or cut short, in a lent buffer.
+// The line of a record, and what is told of one that is bad or cut short.
 ghost use Rattle.std.specs.Prelude.{◌≡◌};
-ghost use Rattle.lines.specs.Lines.{page, put_text};
-ghost use Rattle.list_feed.specs.Line.{listed_text, list_name, record_text, bad_record_text, short_record_text};
+ghost use Rattle.lines.specs.Lines.{ascii};
+ghost use Rattle.lines.specs.Line.{with_text};
+ghost use Rattle.event_words.specs.Words.{program_text};
+ghost use Rattle.list_feed.specs.Line.{listed_text, record_text, bad_record_text, short_record_text};
 
 use event_fault::Fault;
+use event_words::put_program;
 use events::{Act, Node};
+use lines::Line;
+use streams::Failure;
 
-pub(crate) fn put_line(
-    out: &mut [u8],
-    at: usize,
-    node: Node,
-    count: u64,
-    key: u32,
-    act: Act,
-) -> usize
-    ensures { page out.new result ≡ put_text (page out.old at) (listed_text node count key act) }
+pub(crate) fn put_line(line: &mut Line, node: Node, count: u64, key: u32, act: Act)
+    ensures { line.new ≡ with_text line.old (listed_text node count key act) }
 {
-    let named = event_words::put_event(out, at, node, key, act);
-    let marked = lines::put_word(out, named, b"  # ");
-    let counted = lines::put_number(out, marked, count);
-    lines::put_word(out, counted, b"\n")
+    event_words::put_event(line, node, key, act);
+    line.put_numbered(b"  # ", count);
+    line.put_word(b"\n");
 }
 
 // The program's own name, which begins every line on standard error.
-fn put_name(out: &mut [u8], at: usize, node: Node) -> usize
-    ensures { page out.new result ≡ put_text (page out.old at) (list_name node) }
+fn put_name(line: &mut Line, node: Node)
+    ensures { line.new ≡ with_text line.old (program_text node (ascii "list")) }
 {
-    match node {
-        Node::Source => lines::put_word(out, at, b"list"),
-        Node::Destination => lines::put_word(out, at, b"destination_list"),
-    }
+    put_program(line, node, b"list");
 }
 
-pub(crate) fn put_failure(out: &mut [u8], at: usize, node: Node, what: &[u8]) -> usize {
-    let named = put_name(out, at, node);
-    lines::put_word(out, named, what)
+pub(crate) fn put_failure(line: &mut Line, node: Node, failure: Failure) {
+    put_name(line, node);
+    line.put_word(&failure.told());
 }
 
-fn put_record(out: &mut [u8], at: usize, node: Node, count: u64) -> usize
-    ensures { page out.new result ≡ put_text (page out.old at) (record_text node count) }
+fn put_record(line: &mut Line, node: Node, count: u64)
+    ensures { line.new ≡ with_text line.old (record_text node count) }
 {
-    let named = put_name(out, at, node);
-    let placed = lines::put_word(out, named, b": record ");
-    let counted = lines::put_number(out, placed, count);
-    lines::put_word(out, counted, b": ")
+    put_name(line, node);
+    line.put_numbered(b": record ", count);
+    line.put_word(b": ");
 }
 
-pub(crate) fn put_bad(out: &mut [u8], at: usize, node: Node, count: u64, fault: Fault) -> usize
-    ensures { page out.new result ≡ put_text (page out.old at) (bad_record_text node count fault) }
+pub(crate) fn put_bad(line: &mut Line, node: Node, count: u64, fault: Option<Fault>)
+    ensures { line.new ≡ with_text line.old (bad_record_text node count fault) }
 {
-    let named = put_record(out, at, node, count);
-    let told = event_fault::put_fault(out, named, fault);
-    lines::put_word(out, told, b"\n")
+    put_record(line, node, count);
+    event_fault::put_fault(line, fault);
+    line.put_word(b"\n");
 }
 
-pub(crate) fn put_short(out: &mut [u8], at: usize, node: Node, count: u64, came: u64) -> usize
-    ensures { page out.new result ≡ put_text (page out.old at) (short_record_text node count came) }
+pub(crate) fn put_short(line: &mut Line, node: Node, count: u64, came: u64)
+    ensures { line.new ≡ with_text line.old (short_record_text node count came) }
 {
-    let named = put_record(out, at, node, count);
-    let missing = lines::put_word(out, named, b"byte ");
-    let counted = lines::put_number(out, missing, came);
-    let told = lines::put_word(out, counted, b" is missing, expected 16 bytes");
-    lines::put_word(out, told, b"\n")
+    put_record(line, node, count);
+    line.put_numbered(b"byte ", came);
+    line.put_word(b" is missing, expected 16 bytes");
+    line.put_word(b"\n");
 }

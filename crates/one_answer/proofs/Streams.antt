@@ -1,12 +1,13 @@
--- The public functions of streams that no stream is lent to have one possible answer each. Assumes nothing.
+-- The public functions of streams that no stream is lent to have one possible answer each, the zeros of whatever length. Assumes nothing.
+use denote.RattleType.{RattleType}
 use mathlib.Core.Path.{refl}
 use Rattle.one_answer.specs.One.{OneAnswer}
-use Rattle.one_answer.proofs.Law.{facts_behind, result}
-use Rattle.streams.specs.contracts.buffer as buffer
-use Rattle.streams.specs.contracts.large_buffer as large_buffer
+use Rattle.one_answer.proofs.Law.{facts, facts_behind, result}
+use Rattle.streams.specs.contracts.Failure.told as Failure-told
+use Rattle.streams.specs.contracts.zeros as zeros
 
-pub buffer-has_one_answer : {M : Type 1} → OneAnswer M buffer.ended (λ 𝓤 𝓛. buffer.clauses 𝓛) (λ 𝓤 𝓛. buffer.spec 𝓛)
-buffer-has_one_answer 𝓤 𝓛 _ _ = (refl, λ _ _ _ _ _ _ _ _. facts_behind 𝓤 result)
+pub zeros-has_one_answer : {M : Type 1} → (N : RattleType) → OneAnswer M (zeros.ended N) (λ 𝓤 𝓛. zeros.clauses N 𝓛) (λ 𝓤 𝓛. zeros.spec N 𝓛)
+zeros-has_one_answer N 𝓤 𝓛 _ _ = (refl, λ _ _ _ _ _ _ _ _. facts_behind 𝓤 result)
 
-pub large_buffer-has_one_answer : {M : Type 1} → OneAnswer M large_buffer.ended (λ 𝓤 𝓛. large_buffer.clauses 𝓛) (λ 𝓤 𝓛. large_buffer.spec 𝓛)
-large_buffer-has_one_answer 𝓤 𝓛 _ _ = (refl, λ _ _ _ _ _ _ _ _. facts_behind 𝓤 result)
+pub Failure-told-has_one_answer : {M : Type 1} → OneAnswer M Failure-told.ended (λ 𝓤 𝓛. Failure-told.clauses 𝓛) (λ 𝓤 𝓛. Failure-told.spec 𝓛)
+Failure-told-has_one_answer 𝓤 𝓛 _ _ = (refl, λ _ _ _ _ _ _ _ _. facts 𝓤 result)

@@ -2,14 +2,13 @@
 use Rattle.std.specs.Prelude.{ℕ, List, ◌++◌}
 use Rattle.lines.specs.Lines.{ascii, number_text, new_line}
 use Rattle.events.specs.declared.Node.{Node}
-use Rattle.events.specs.declared.Node.TheVariants.{Source, Destination}
+use Rattle.event_words.specs.Words.{program_text}
 use Rattle.script_words.specs.Words.{what_text}
 use Rattle.script_words.specs.declared.What.{What}
 
 -- the program's own name
 abbrev pub script_name : Node → List ℕ
-script_name Source = ascii "script"
-script_name Destination = ascii "destination_script"
+script_name node = program_text node (ascii "script")
 
 abbrev pub complaint_start : Node → ℕ → List ℕ
 complaint_start node number = script_name node ++ (ascii ": line " ++ (number_text number ++ ascii ": expected "))

@@ -5,187 +5,147 @@
 // front of a comment are kept, 4,096 at most.
 #![tactic(auto)]
 
+mod buffer;
 mod print;
 
+use buffer::Buffer;
 use events::Node;
+use lines::Line;
+use script_words::What;
 use std::io::{Stderr, Stdin, Stdout};
+use streams::Failure;
+
+// Where a program reads and writes, and of which end its lines are.
+#[derive(Clone, Copy)]
+struct Console {
+    stdin: Stdin,
+    stdout: Stdout,
+    stderr: Stderr,
+    node: Node,
+}
+
+// Why a run ends early.
+#[derive(Clone, Copy)]
+enum Stop {
+    Fails(Failure),
+    TooLong,
+    Expected(What),
+}
 
 // How far the reading has come.
-#[derive(Clone, Copy)]
-struct Progress {
-    going: bool,
+#[derive(Drop)]
+struct Script {
+    console: Console,
     // the number of the line
     number: u64,
-    // how many of its octets are kept, and whether a comment has begun
-    length: usize,
+    // those of its octets that are kept, and whether a comment has begun
+    line: Buffer,
     comment: bool,
-    // how many octets of records wait to be written
-    waiting: usize,
+    // the records that wait to be written
+    records: Buffer,
 }
 
-// A loop has to end, and nothing says that the input does: so the turns are counted down, from a number that no run uses up.
 pub fn serve(rt: HostRuntime, node: Node) {
-    let stdin = rt.stdin();
-    let stdout = rt.stdout();
-    let stderr = rt.stderr();
-    let mut input = streams::large_buffer();
-    let mut line = streams::buffer();
-    let mut records = streams::buffer();
-    let mut progress = Progress {
-        going: true,
-        number: 1,
-        length: 0,
-        comment: false,
-        waiting: 0,
-    };
-    let mut turns = u64::MAX;
-    while turns > 0 && progress.going {
-        progress = turn(
-            stdin,
-            stdout,
-            stderr,
+    let mut input: [u8; 65536] = streams::zeros();
+    let mut script = Script {
+        console: Console {
+            stdin: rt.stdin(),
+            stdout: rt.stdout(),
+            stderr: rt.stderr(),
             node,
-            &mut input,
-            &mut line,
-            &mut records,
-            progress,
-        );
-        turns -= 1;
-    }
-}
-
-// One read. Every line that it ends is written before the next.
-fn turn(
-    mut stdin: Stdin,
-    stdout: Stdout,
-    stderr: Stderr,
-    node: Node,
-    input: &mut [u8],
-    line: &mut [u8],
-    records: &mut [u8],
-    before: Progress,
-) -> Progress {
-    let Some(count) = streams::read_some(&mut stdin, input) else {
-        print::reading_fails(stderr, node);
-        return before.stopped();
+        },
+        number: 1,
+        line: Buffer::new(),
+        comment: false,
+        records: Buffer::new(),
     };
-    if count == 0 {
-        return line_end(stdout, stderr, node, line, records, before)
-            .written(stdout, stderr, node, records)
-            .stopped();
+    if let Err(stop) = script.run(&mut input) {
+        script.tell(stop);
     }
-    let mut progress = before;
-    let mut index: usize = 0;
-    while index < count && progress.going {
-        progress = octet(stdout, stderr, node, line, records, progress, input[index]);
-        index += 1;
-    }
-    progress.written(stdout, stderr, node, records)
 }
 
-fn octet(
-    stdout: Stdout,
-    stderr: Stderr,
-    node: Node,
-    line: &mut [u8],
-    records: &mut [u8],
-    progress: Progress,
-    octet: u8,
-) -> Progress {
-    let length = progress.length;
-    if octet == b'\n' {
-        return line_end(stdout, stderr, node, line, records, progress);
+impl From<Failure> for Stop {
+    fn from(failure: Failure) -> Stop {
+        Stop::Fails(failure)
     }
-    if progress.comment {
-        return progress;
-    }
-    if octet == b'#' {
-        return progress.commented();
-    }
-    if length < line.len() {
-        line[length] = octet;
-        return progress.longer();
-    }
-    print::too_long(
-        stdout,
-        stderr,
-        node,
-        print::first(records, progress.waiting),
-        progress.number,
-    );
-    progress.stopped()
 }
 
-// The end of a line, or of the input: the line's record, where it names an event.
-fn line_end(
-    stdout: Stdout,
-    stderr: Stderr,
-    node: Node,
-    line: &[u8],
-    records: &mut [u8],
-    progress: Progress,
-) -> Progress {
-    let waiting = progress.waiting;
-    match script_line::parse(node, print::first(line, progress.length)) {
-        Ok(None) => progress.next(waiting),
-        Ok(Some((key, act))) => {
-            let record = event_record::encode(node, key, act);
-            let place = lines::put_word(records, waiting, &record);
-            progress
-                .next(place)
-                .written_if_full(stdout, stderr, node, records)
+impl Script {
+    // To the end of the input: every line that a read ends is written before the next read. A loop has to end, and nothing says that the
+    // input does: so the reads are counted, up to a number that no run reaches.
+    fn run(&mut self, input: &mut [u8]) -> Result<(), Stop> {
+        for _ in 0..u64::MAX {
+            let count = streams::read_some(&mut self.console.stdin, input)?;
+            if count == 0 {
+                self.end_line()?;
+                self.write()?;
+                break;
+            }
+            for octet in &input[..count] {
+                self.read(*octet)?;
+            }
+            self.write()?;
         }
-        Err(what) => {
-            print::expected(
-                stdout,
-                stderr,
-                node,
-                print::first(records, waiting),
-                progress.number,
-                what,
-            );
-            progress.stopped()
+        Ok(())
+    }
+
+    fn read(&mut self, octet: u8) -> Result<(), Stop> {
+        match octet {
+            b'\n' => self.end_line()?,
+            _ if self.comment => {}
+            b'#' => self.comment = true,
+            _ => {
+                if !self.line.push(octet) {
+                    return self.break_off(Stop::TooLong);
+                }
+            }
         }
-    }
-}
-
-impl Progress {
-    fn stopped(mut self) -> Self {
-        self.going = false;
-        self
+        Ok(())
     }
 
-    fn commented(mut self) -> Self {
-        self.comment = true;
-        self
-    }
-
-    fn longer(mut self) -> Self {
-        self.length = std::num::wrapping_add_usize(self.length, 1);
-        self
-    }
-
-    fn next(mut self, waiting: usize) -> Self {
-        self.number = std::num::wrapping_add_u64(self.number, 1);
-        self.length = 0;
+    // The end of a line, or of the input: the line's record, where it names an event.
+    fn end_line(&mut self) -> Result<(), Stop> {
+        match script_line::parse(self.console.node, self.line.octets()) {
+            Ok(None) => {}
+            Ok(Some((key, act))) => {
+                let record = event_record::encode(self.console.node, key, act);
+                self.records.append(&record);
+            }
+            Err(what) => return self.break_off(Stop::Expected(what)),
+        }
+        self.number = self.number.wrapping_add(1);
+        self.line.clear();
         self.comment = false;
-        self.waiting = waiting;
-        self
+        // room for a record is left where this does not write
+        if 4000 < self.records.octets().len() {
+            self.write()?;
+        }
+        Ok(())
     }
 
-    // Room for a record is left where this does not write.
-    fn written_if_full(self, stdout: Stdout, stderr: Stderr, node: Node, records: &[u8]) -> Self {
-        if 4000 < self.waiting {
-            return self.written(stdout, stderr, node, records);
-        }
-        self
+    fn write(&mut self) -> Result<(), Failure> {
+        streams::write_all(&mut self.console.stdout, self.records.octets())?;
+        self.records.clear();
+        Ok(())
     }
 
-    fn written(mut self, stdout: Stdout, stderr: Stderr, node: Node, records: &[u8]) -> Self {
-        if self.going {
-            self.going = print::write(stdout, stderr, node, print::first(records, self.waiting));
-            self.waiting = 0;
+    // The records before the line, and an octet that no record starts with.
+    fn break_off(&mut self, stop: Stop) -> Result<(), Stop> {
+        self.write()?;
+        streams::write_all(&mut self.console.stdout, b"\xff")?;
+        Err(stop)
+    }
+
+    // A line on standard error. Where it cannot be written, nobody can be told.
+    fn tell(&mut self, stop: Stop) {
+        let node = self.console.node;
+        let mut out: [u8; 4096] = streams::zeros();
+        let mut line = Line { buffer: &mut out, at: 0 };
+        match stop {
+            Stop::Fails(failure) => print::put_failure(&mut line, node, failure),
+            Stop::TooLong => print::put_too_long(&mut line, node, self.number),
+            Stop::Expected(what) => print::put_expected(&mut line, node, self.number, what),
         }
-        self
+        let _ = streams::write_line(&mut self.console.stderr, &line);
     }
 }

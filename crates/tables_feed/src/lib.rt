@@ -10,86 +10,70 @@ mod first;
 mod octets;
 mod print;
 
-ghost use Rattle.std.specs.Prelude.{◌+◌, ◌*◌, ◌≤◌, length};
-
 use event_record::Request;
 use events::{Node, NodeAct};
 use std::io::{Stdin, Stdout};
+use streams::Stop;
 
 // Added to the count of a case whose table is not to be checked.
 const UNCHECKED: usize = 32768;
 
-// A loop has to end, and nothing says that the input does: so the cases are counted, up to a number that no run reaches.
+// Where a program reads and writes, and whose cases they are.
+#[derive(Clone, Copy)]
+struct Console {
+    stdin: Stdin,
+    stdout: Stdout,
+    node: Node,
+}
+
 pub fn serve(rt: HostRuntime, node: Node) {
-    let stdin = rt.stdin();
-    let stdout = rt.stdout();
-    let mut body = streams::large_buffer();
-    let mut number: u64 = 1;
-    while number < u64::MAX && answer(stdin, stdout, node, number, &mut body) {
-        number += 1;
+    let mut console = Console {
+        stdin: rt.stdin(),
+        stdout: rt.stdout(),
+        node,
+    };
+    if let Err(Stop::Bad) = console.run() {
+        // where this fails too, nothing more was to be written
+        let _ = streams::write_all(&mut console.stdout, b"bad\n");
     }
 }
 
-// Reads a case, and prints what becomes of it. False where nothing more is to be read: at the end of the input, at a case that is bad, and
-// where a write fails.
-fn answer(mut stdin: Stdin, stdout: Stdout, node: Node, number: u64, body: &mut [u8]) -> bool {
-    let mut head = [0u8; 2];
-    let got = streams::read_full(&mut stdin, &mut head);
-    if got == 0 {
-        return false;
-    }
-    let said = octets::short(&head, 0) as usize;
-    let count = said % UNCHECKED;
-    if got < 2 || 1100 < count {
-        return print::bad(stdout);
-    }
-    answer_rest(stdin, stdout, node, number, said < UNCHECKED, count, body)
-}
-
-// The rest of a case: its records and its event, whole.
-fn answer_rest(
-    mut stdin: Stdin,
-    stdout: Stdout,
-    node: Node,
-    number: u64,
-    checked: bool,
-    count: usize,
-    body: &mut [u8],
-) -> bool
-    requires { count ≤ 1100 }
-{
-    let size = count * 20 + 16;
-    if body.len() < size {
-        return print::bad(stdout);
-    }
-    if streams::read_full(&mut stdin, &mut body[..size]) < size {
-        return print::bad(stdout);
-    }
-    answer_body(stdout, node, number, checked, count, body)
-}
-
-fn answer_body(
-    stdout: Stdout,
-    node: Node,
-    number: u64,
-    checked: bool,
-    count: usize,
-    body: &[u8],
-) -> bool
-    requires { (count ≤ 1100) × (count * 20 + 16 ≤ length body.now) }
-{
-    let records = octets::records(body, count);
-    let table = records.table;
-    let event = event_record::decode(node, event_record::record_at(body, count * 20));
-    if !records.named {
-        return print::bad(stdout);
-    }
-    let request = event.request;
-    match request {
-        Request::Bad => print::bad(stdout),
-        Request::Asks(act) => {
-            let held = first::handle(checked, table, count, event.key, NodeAct { node, act });
-            print::table(stdout, number, count, held)
+impl Console {
+    // To the end of the input. A loop has to end, and nothing says that the input does: so the cases are counted, up to a number that no run
+    // reaches.
+    fn run(mut self) -> Result<(), Stop> {
+        let mut body: [u8; 65536] = streams::zeros();
+        for number in 1..u64::MAX {
+            let mut head = [0u8; 2];
+            match streams::read_full(&mut self.stdin, &mut head) {
+                0 => break,
+                1 => return Err(Stop::Bad),
+                _ => self.answer(number, u16::from_be_bytes(head) as usize, &mut body)?,
+            }
         }
+        Ok(())
+    }
+
+    // Reads the rest of a case, and prints what becomes of it.
+    fn answer(mut self, number: u64, said: usize, body: &mut [u8; 65536]) -> Result<(), Stop> {
+        let count = said % UNCHECKED;
+        if 1100 < count {
+            return Err(Stop::Bad);
+        }
+        let size = count * 20 + 16;
+        let body = &mut body[..size];
+        if streams::read_full(&mut self.stdin, body) < size {
+            return Err(Stop::Bad);
+        }
+        let mut table = octets::records(&body[..count * 20]).ok_or(Stop::Bad)?;
+        let event = event_record::decode(self.node, event_record::record_at(body, count * 20));
+        let Request::Asks(act) = event.request else {
+            return Err(Stop::Bad);
+        };
+        let node = self.node;
+        let held = &mut table[..count];
+        let done = first::handle(said < UNCHECKED, held, event.key, NodeAct { node, act });
+        print::table(self.stdout, number, held, done)?;
+        Ok(())
     }
 }

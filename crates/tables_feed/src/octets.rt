@@ -1,100 +1,81 @@
 // The octets of a case (docs/TABLES.md, "A case").
-ghost use Rattle.std.specs.Prelude.{◌≤◌};
-
 use call::Call;
 use rows::State;
 use signal::Soft;
 
-// Records, and whether every value in them is named.
-#[derive(Clone, Copy)]
-pub(crate) struct Table {
-    pub(crate) named: bool,
-    pub(crate) table: [Call; 1100],
-}
-
-// Past the end an octet is 0, so that nothing is asked of a caller.
-fn octet(body: &[u8], place: usize) -> u8 {
-    if place < body.len() {
-        return body[place];
-    }
-    0
-}
-
-// Two octets, big-endian.
-pub(crate) fn short(body: &[u8], place: usize) -> u16
-    requires { place ≤ 22000 }
-{
-    let high = octet(body, place) as u16;
-    let low = octet(body, place + 1) as u16;
-    high * 256 + low
-}
-
-// Four octets, big-endian.
-fn long(body: &[u8], place: usize) -> u32
-    requires { place ≤ 21998 }
-{
-    let high = short(body, place) as u32;
-    let low = short(body, place + 2) as u32;
-    high * 65536 + low
-}
-
-pub(crate) fn records(body: &[u8], count: usize) -> Table
-    requires { count ≤ 1100 }
-{
+// The records that stand there, as far as there is room; none, where a value of one of them is not named.
+pub(crate) fn records(octets: &[u8]) -> Option<[Call; 1100]> {
     let mut table = [Call::EMPTY; 1100];
-    let mut named = true;
-    let mut index: usize = 0;
-    while index < count {
-        let place = index * 20;
-        table[index] = record(body, place);
-        if !is_named(body, place) {
-            named = false;
-        }
-        index += 1;
+    let (records, _) = octets.as_chunks::<20>();
+    for (call, octets) in table.iter_mut().zip(records) {
+        *call = record(*octets)?;
     }
-    Table { named, table }
+    Some(table)
 }
 
-// Hard 0 or 1, soft 0 to 2, a state 0 to 7.
-fn is_named(body: &[u8], place: usize) -> bool
-    requires { place ≤ 21980 }
-{
-    octet(body, place + 4) < 2 && octet(body, place + 5) < 3 && octet(body, place + 6) < 8
+fn record(octets: [u8; 20]) -> Option<Call> {
+    let [
+        k0,
+        k1,
+        k2,
+        k3,
+        hard,
+        soft,
+        state,
+        _,
+        i0,
+        i1,
+        r0,
+        r1,
+        l0,
+        l1,
+        n0,
+        n1,
+        n2,
+        n3,
+        _,
+        _,
+    ] = octets;
+    let incumbent = u16::from_be_bytes([i0, i1]);
+    let rerouting = u16::from_be_bytes([r0, r1]);
+    Some(Call {
+        key: u32::from_be_bytes([k0, k1, k2, k3]),
+        hard: flag(hard)?,
+        soft: soft_at(soft)?,
+        state: state_at(state, incumbent, rerouting)?,
+        last: u16::from_be_bytes([l0, l1]),
+        remote: u32::from_be_bytes([n0, n1, n2, n3]),
+    })
 }
 
-fn record(body: &[u8], place: usize) -> Call
-    requires { place ≤ 21980 }
-{
-    let incumbent = short(body, place + 8);
-    let rerouting = short(body, place + 10);
-    Call {
-        key: long(body, place),
-        hard: octet(body, place + 4) == 1,
-        soft: soft(octet(body, place + 5)),
-        state: state(octet(body, place + 6), incumbent, rerouting),
-        last: short(body, place + 12),
-        remote: long(body, place + 14),
-    }
-}
-
-fn soft(number: u8) -> Soft {
+fn flag(number: u8) -> Option<bool> {
     match number {
-        0 => Soft::NoSoft,
-        1 => Soft::Asymmetric,
-        _ => Soft::Symmetric,
+        0 => Some(false),
+        1 => Some(true),
+        _ => None,
+    }
+}
+
+fn soft_at(number: u8) -> Option<Soft> {
+    match number {
+        0 => Some(Soft::NoSoft),
+        1 => Some(Soft::Asymmetric),
+        2 => Some(Soft::Symmetric),
+        _ => None,
     }
 }
 
 // A connection that the state does not hold is not read.
-fn state(number: u8, incumbent: u16, rerouting: u16) -> State {
+fn state_at(number: u8, incumbent: u16, rerouting: u16) -> Option<State> {
     match number {
-        0 => State::Null,
-        1 => State::Idle(incumbent),
-        2 => State::HardWaiting,
-        3 => State::HardUnderway(rerouting),
-        4 => State::SoftTriggered(incumbent),
-        5 => State::SoftProceeding(incumbent, rerouting),
-        6 => State::SoftInitiated(incumbent, rerouting),
-        _ => State::Awaiting(incumbent, rerouting),
+        0 => Some(State::Null),
+        1 => Some(State::Idle(incumbent)),
+        2 => Some(State::HardWaiting),
+        3 => Some(State::HardUnderway(rerouting)),
+        4 => Some(State::SoftTriggered(incumbent)),
+        5 => Some(State::SoftProceeding(incumbent, rerouting)),
+        6 => Some(State::SoftInitiated(incumbent, rerouting)),
+        7 => Some(State::Awaiting(incumbent, rerouting)),
+        _ => None,
     }
 }

@@ -14,5 +14,5 @@ take-put_mid-add a k n xs ys within fits =
 
 pub loop-done-preserved : goal.loop-done-preserved
 loop-done-preserved g c =
-    let joined = take-put_mid-add c.loop-done.done _ c.in-Some.came c.loop-done.buf c.read_some.new.buf c.loop-done.invariant.1 c.in-Some.ensures.within.0 in
-    (search rules, search rules, subst (Consumes _ _) (sym joined) (Consumes-trans _ _ _ _ _ c.loop-done.invariant.2 c.in-Some.ensures.octets.0))
+    let joined = take-put_mid-add c.loop-done.done _ c.in-Ok.came c.loop-done.buf c.read_some.new.buf c.loop-done.invariant.1 c.in-Ok.ensures.within.0 in
+    (search rules, search rules, subst (Consumes _ _) (sym joined) (Consumes-trans _ _ _ _ _ c.loop-done.invariant.2 c.in-Ok.ensures.octets.0))
