@@ -1,5 +1,5 @@
 -- What `list` prints (docs/BENCH.md, "list"), and `destination_list` at the other end. Assumes nothing.
-use Rattle.std.specs.Prelude.{ℕ, List, ◌++◌}
+use Rattle.std.specs.Prelude.{ℕ, List, ◌++◌, Option}
 use Rattle.lines.specs.Lines.{ascii, number_text, new_line}
 use Rattle.events.specs.declared.Node.{Node}
 use Rattle.events.specs.declared.Act.{Act}
@@ -19,7 +19,7 @@ abbrev pub record_text : Node → ℕ → List ℕ
 record_text node count = list_name node ++ (ascii ": record " ++ (number_text count ++ ascii ": "))
 
 -- what is told of a bad record, and of one that is cut short
-abbrev pub bad_record_text : Node → ℕ → Fault → List ℕ
+abbrev pub bad_record_text : Node → ℕ → Option Fault → List ℕ
 bad_record_text node count fault = record_text node count ++ (fault_text fault ++ new_line)
 
 abbrev pub short_record_text : Node → ℕ → ℕ → List ℕ
