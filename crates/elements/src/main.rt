@@ -28,8 +28,8 @@ fn main(rt: HostRuntime) {
 }
 
 impl Console {
-    // To the end of the input. A loop has to end, and nothing says that the input does: so the cases are counted, up to a number that no run
-    // reaches.
+    // To the end of the input. A loop has to end, and nothing says that the input does: so the cases are counted, up to a number that no
+    // run reaches.
     fn run(mut self) -> Result<(), Stop> {
         let mut received: [u8; 65536] = streams::zeros();
         let mut own: [u8; 65536] = streams::zeros();

@@ -57,7 +57,7 @@ impl Console {
         Ok(())
     }
 
-    // The records that are whole among the octets: how many are listed with them.
+    // The records that are whole among the octets: how many are listed with them. No run counts so far that the last number is met twice.
     fn list_whole(mut self, octets: &[u8], output: &mut [u8], listed: u64) -> Result<u64, Stop> {
         let mut count = listed;
         let mut line = Line { buffer: output, at: 0 };

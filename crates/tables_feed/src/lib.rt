@@ -39,8 +39,8 @@ pub fn serve(rt: HostRuntime, node: Node) {
 }
 
 impl Console {
-    // To the end of the input. A loop has to end, and nothing says that the input does: so the cases are counted, up to a number that no run
-    // reaches.
+    // To the end of the input. A loop has to end, and nothing says that the input does: so the cases are counted, up to a number that no
+    // run reaches.
     fn run(mut self) -> Result<(), Stop> {
         let mut body: [u8; 65536] = streams::zeros();
         for number in 1..u64::MAX {

@@ -51,6 +51,7 @@ impl Console<'_> {
 
     // Until the input ends or a record is bad. A loop has to end, and nothing says that the input does: so the reads are counted, up to a
     // number that no run reaches.
+    #[tactic(auto, using(event_record::proofs::Buffer::rest_short))]
     fn follow(mut self, out: &mut [u8], input: &mut [u8; 65536]) -> Result<(), Failure> {
         let mut table = [Call::EMPTY; 64];
         let mut count: u64 = 0;
