@@ -1,21 +1,16 @@
 -- `distinct::among` meets its contract. Assumes nothing.
-use Rattle.std.proofs.Common.{rules, arith, sym, ◌∙◌, ◌<◌, length}
-use Rattle.distinct.proofs.Laws.{has_start, next_yes, next_no}
+use Rattle.std.proofs.Common.{sym, ◌∙◌, ap}
+use mathlib.Core.Bool.{Bool, ◌||◌}
+use lib.Dec.{eqb}
+use Rattle.std.proofs.Common.{get_or}
+use Rattle.distinct.proofs.Laws.{has_start, has_next}
 use Rattle.distinct.proofs.among.Goals as goal
-use Rattle.distinct.proofs.among.Goals.{then-keys-j, else-keys-j}
 
-pub loop-j-init : goal.loop-j-init
-loop-j-init c = (search rules, sym (has_start c.args.x c.args.keys.now))
+pub loop-key-init : goal.loop-key-init
+loop-key-init c = sym (has_start c.args.x c.args.keys.now)
 
-pub loop-j-preserved : goal.loop-j-preserved
-loop-j-preserved c =
-    let j = c.loop-j.j in
+pub loop-key-preserved : goal.loop-key-preserved
+loop-key-preserved c =
     let xs = c.args.keys.now in
-    let x = c.args.x in
-    let l : j < length xs = omega arith in (
-      omega arith,
-      elim c.if-keys-j.branch [
-        | then-keys-j w ↦ w.found-is ∙ sym (next_yes x xs j l w.if-keys-j.true)
-        | else-keys-j w ↦ w.found-is ∙ (c.loop-j.invariant.1 ∙ sym (next_no x xs j l w.if-keys-j.false))
-      ],
-    )
+    let j = c.loop-key.key-index in
+    ap (λ (t : Bool). t || eqb (get_or xs j 0) c.args.x) c.loop-key.invariant ∙ sym (has_next c.args.x xs j c.loop-key-test.true)
