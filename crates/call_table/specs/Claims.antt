@@ -2,7 +2,8 @@
 -- decided, and `table_of` the row after it: the two that the contracts of `handle` and `handle64` fix. "01" is the scope document, a demand
 -- one of the three in README.md. Proofs: proofs/Fit.antt, Stored.antt, Claims.antt, Given.antt,
 -- Stopped.antt and Kept.antt. Assumes nothing.
-use Rattle.std.specs.Prelude.{◌<◌, ◌≤◌, ℕ, Bool, cond, false, not, true, List, [], ◌++◌, ◌∷◌, map, ◌↔◌, ◌⊎◌, ◌≡◌, eqb, get_or, length, set, None}
+use Rattle.std.specs.Prelude.{◌<◌, ◌≤◌, ℕ, Bool, cond, false, not, true, List, [], ◌++◌, ◌∷◌, map, ◌↔◌, ◌⊎◌, ◌≡◌, eqb, get_or, length, set}
+use Rattle.std.specs.Prelude.{None}
 use Rattle.signal.specs.Numbers.{answer_number}
 use Rattle.signal.specs.Signals.{places}
 use Rattle.signal.specs.declared.Wanted.{Wanted}

@@ -100,34 +100,28 @@ fn record_fit(call: Call) -> bool
     }
 }
 
-// What is found stays; else what is at hand is it, where its key, k, is the one. The key is compared first: few records have it. So one
-// that is passed over costs no copy (docs/SPEED.md).
-fn later<T: Copy>(found: Option<T>, key: u32, k: u32, at: T) -> Option<T>
-    ensures { result ≡ later_of found key k at }
+// What is found stays; else what is at hand is it, where its key, k, is the one. The key is compared first: few records have it. What stays
+// is not written anew, so that a record that is passed over costs no copy (docs/SPEED.md).
+fn note<T: Copy>(found: &mut Option<T>, key: u32, k: u32, at: T)
+    ensures { found.new ≡ later_of found.old key k at }
 {
     if k == key && found.is_none() {
-        Some(at)
-    } else {
-        found
+        *found = Some(at);
     }
 }
 
-fn seek<T: Copy>(s: Sought<T>, key: u32, k: u32, at: T) -> Sought<T>
-    ensures { result ≡ sought_of s key k at }
+fn seek<T: Copy>(s: &mut Sought<T>, key: u32, k: u32, at: T)
+    ensures { s.new ≡ sought_of s.old key k at }
 {
-    Sought {
-        found: later(s.found, key, k, at),
-        free: later(s.free, 0, k, at),
-    }
+    note(&mut s.found, key, k, at);
+    note(&mut s.free, 0, k, at);
 }
 
-fn step(s: Seen, key: u32, i: usize, c: Call) -> Seen
-    ensures { result ≡ step_of s key i c }
+fn step(s: &mut Seen, key: u32, i: usize, c: Call)
+    ensures { s.new ≡ step_of s.old key i c }
 {
-    Seen {
-        sound: s.sound && record_fit(c),
-        sought: seek(s.sought, key, c.key, (i, c)),
-    }
+    s.sound = s.sound && record_fit(c);
+    seek(&mut s.sought, key, c.key, (i, c));
 }
 
 // One reading: each record once, its key into the lent array.
@@ -146,7 +140,7 @@ fn survey(t: &[Call], key: u32, keys: &mut [u32]) -> Seen
         if i < keys.len() {
             keys[i] = c.key;
         }
-        s = step(s, key, i, c);
+        step(&mut s, key, i, c);
     }
     s
 }
@@ -171,7 +165,7 @@ fn look(t: &[Call], key: u32) -> Sought<usize>
         if enough(s, key) {
             return s;
         }
-        s = seek(s, key, c.key, i);
+        seek(&mut s, key, c.key, i);
     }
     s
 }

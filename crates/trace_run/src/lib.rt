@@ -10,6 +10,7 @@ ghost use Rattle.trace_run.specs.Run.{chunk_of};
 ghost use Rattle.trace_run.specs.Placed.{keys_in, index_of, place_for, refused_with, carried_on};
 ghost use Rattle.trace_run.specs.Placed.{worked_on, unplaced_for, stopped_at, Stops};
 
+use admission::{admit, refusal};
 use call::{Call, Outcome};
 use event_record::{Request, decode, record_at};
 use events::{Act, Node};
@@ -77,17 +78,14 @@ fn carried(node: Node, call: Call, key: u32, admission: Result<Act, Answer>) -> 
 fn worked(node: Node, call: Call, key: u32, act: Act, missing: bool) -> Outcome
     ensures { result ≡ worked_on node call key act missing }
 {
-    carried(node, call, key, admission::admit(key, act, missing, false))
+    carried(node, call, key, admit(key, act, missing, false))
 }
 
 // And where it goes to none.
 fn unplaced(key: u32, act: Act) -> Outcome
     ensures { result ≡ unplaced_for key act }
 {
-    refused(
-        admission::refusal(admission::admit(key, act, true, true)),
-        Call::EMPTY,
-    )
+    refused(refusal(admit(key, act, true, true)), Call::EMPTY)
 }
 
 // A bad record ends a run.

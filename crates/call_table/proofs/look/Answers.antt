@@ -26,7 +26,7 @@ pub loop-i-preserved : goal.loop-i-preserved
 loop-i-preserved c =
     let key = c.args.key in
     let s = c.loop-i.s in
-    rw c.seek-s.ensures
+    rw c.seek.ensures
     (sym (until_at (done key) (more key) c.args.t.now _ c.loop-i.i s c.loop-i-test.true false (sym c.if-enough.ensures)) ∙ c.loop-i.invariant)
 
 pub returns : goal.returns

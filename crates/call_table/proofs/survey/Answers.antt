@@ -16,7 +16,7 @@ loop-i-preserved c =
     let i = c.loop-i.i in
     let l = c.loop-i-test.true in
     let kept = c.loop-i.invariant.1 in (
-      rw c.step-s.ensures (sym (next_at (λ s i c. step_of s key i c) ys i c.loop-i.s _ l) ∙ c.loop-i.invariant.0),
+      rw c.step.ensures (sym (next_at (λ s i c. step_of s key i c) ys i c.loop-i.s _ l) ∙ c.loop-i.invariant.0),
       elim c.if-i-keys.branch [
         | then-i-keys w ↦ rw w.keys-is (sym (key_at (λ (c : Call). c.key) ks ys i _ l) ∙ kept)
         | else-i-keys w ↦ rw w.keys-is (sym (key_past (λ (c : Call). c.key) ks ys i emptied l w.if-i-keys.false) ∙ kept)
