@@ -9,7 +9,7 @@ ghost use Rattle.std.specs.Prelude.{◌≡◌, ◌&&◌, eqb, not, set};
 ghost use Rattle.call.specs.Events.{half_of};
 ghost use Rattle.rows.specs.declared.State.TheVariants.{SoftProceeding};
 ghost use Rattle.call_table.specs.Fit.{is_emptied, is_within, fit_held, fit_record};
-ghost use Rattle.call_table.specs.Table.{place_in, call_in, later_of, sought_of, start_of, step_of, seen_of, keys_of};
+ghost use Rattle.call_table.specs.Table.{place_in, call_in, later_of, sought_of, step_of, seen_of, keys_of};
 ghost use Rattle.call_table.specs.Table.{refused_at, placed_at, decide_fit_of, decide_of, ran_of, table_of, ran_fit_of, table_fit_of};
 ghost use Rattle.call_table.specs.Reading.{is_enough, places_in, fetched_from, needed_by, unread_at, decide_at_of};
 
@@ -82,9 +82,7 @@ fn held_fit(last: u16, state: State) -> bool
     match state {
         State::Null => false,
         State::HardWaiting => last != 0,
-        State::Idle(held) | State::HardUnderway(held) | State::SoftTriggered(held) => within(
-            last, held,
-        ),
+        State::Idle(n) | State::HardUnderway(n) | State::SoftTriggered(n) => within(last, n),
         State::SoftProceeding(i, r) | State::SoftInitiated(i, r) | State::Awaiting(i, r) =>
             both_within(last, i, r),
     }
