@@ -281,6 +281,7 @@ fn decide(n: usize, s: Seen, ok: bool, key: u32, asked: NodeAct) -> Ran
 }
 
 // One opening or event by key, over any row of records.
+#[tactic(auto, using(crate::proofs::Keys::keys_fit))]
 pub fn handle(t: &mut [Call], key: u32, asked: NodeAct) -> Done
     ensures { (result ≡ (ran_of (half_of asked.node) t.old key asked.act).done)
         × (t.new ≡ table_of (half_of asked.node) t.old key asked.act) }
@@ -296,6 +297,7 @@ pub fn handle(t: &mut [Call], key: u32, asked: NodeAct) -> Done
 
 // The same without the check of the table, for a row that is known to be fit: it reads the keys, no further than need be, and for an event
 // its record.
+#[tactic(auto, using(crate::proofs::Stopped::enough_is_read))]
 pub fn handle_fit(t: &mut [Call], key: u32, asked: NodeAct) -> Done
     ensures { (result ≡ (ran_fit_of (half_of asked.node) t.old key asked.act).done)
         × (t.new ≡ table_fit_of (half_of asked.node) t.old key asked.act) }

@@ -18,6 +18,7 @@ fn slot(x: u32) -> usize
 }
 
 // x is one of the keys. Every one is looked at, so that the loop goes several keys at a time.
+#[tactic(auto, using(crate::proofs::Laws::has_next), unfolding(crate::specs::Distinct::has))]
 fn among(keys: &[u32], x: u32) -> bool
     ensures { result ≡ has x keys.now }
 {
