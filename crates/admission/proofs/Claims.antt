@@ -4,13 +4,13 @@ use native.Mathlib.Omega.{arith}
 use mathlib.Core.Bool.{Bool, cond, false, false≢true, true, true≢false}
 use mathlib.Core.Path.{◌≡◌, refl}
 use lib.Dec.{eqb}
+use Rattle.std.specs.Prelude.{Err}
 use borrow.Author.Tests.{eq-eqb, eqb-true, ne_eqb}
 use Rattle.signal.specs.declared.Answer.TheVariants.{KeyZero}
 use Rattle.events.specs.declared.Act.{Act}
 use Rattle.events.specs.declared.Act.TheVariants.{Meets, Opens}
 use Rattle.admission.specs.Claims.{refusal_number}
 use Rattle.admission.specs.Admission.{act_admitted, admission_of}
-use Rattle.admission.specs.declared.Admission.TheVariants.{Refuses}
 use Rattle.admission.specs.Claims as claim
 
 -- no check behind the first gives its number
@@ -24,7 +24,7 @@ not_102 (Meets e) false full h = omega arith
 pub refused_102 : claim.Refused102
 refused_102 key act missing full = (by_key (eqb key 0) refl, λ e. rw (eq-eqb key 0 e))
   where
-    by_key : (b : Bool) → eqb key 0 ≡ b → refusal_number (cond b (Refuses KeyZero) (act_admitted act missing full)) ≡ 102 → key ≡ 0
+    by_key : (b : Bool) → eqb key 0 ≡ b → refusal_number (cond b (Err KeyZero) (act_admitted act missing full)) ≡ 102 → key ≡ 0
     by_key true t h = eqb-true key 0 t
     by_key false t h = absurd (not_102 act missing full h)
 

@@ -1,16 +1,15 @@
 -- What is claimed of an admission, for a reader who does not want to follow its tests. Proofs: proofs/Claims.antt. Assumes nothing.
-use Rattle.std.specs.Prelude.{ℕ, Bool, false, true, ◌↔◌, ◌≡◌, Option}
+use Rattle.std.specs.Prelude.{ℕ, Bool, false, true, ◌↔◌, ◌≡◌, Result, Ok, Option}
 use Rattle.signal.specs.Numbers.{answer_number}
+use Rattle.signal.specs.declared.Answer.{Answer}
 use Rattle.signal.specs.declared.Services.{Services}
 use Rattle.events.specs.declared.Act.{Act}
 use Rattle.events.specs.declared.Act.TheVariants.{Meets, Opens}
 use Rattle.events.specs.declared.Event.{Event}
 use Rattle.admission.specs.Admission.{admission_of, refusal_in}
-use Rattle.admission.specs.declared.Admission.{Admission}
-use Rattle.admission.specs.declared.Admission.TheVariants.{Reaches, Takes}
 
 -- the number of the refusal, and 0 where there is none
-abbrev pub refusal_number : Admission → ℕ
+abbrev pub refusal_number : Result Act Answer → ℕ
 refusal_number a = answer_number (refusal_in a)
 
 -- 01, 102: exactly for the key 0, whatever the table holds.
@@ -38,10 +37,10 @@ Refused105 =
 -- 01, "The table and its records": what is not refused goes on as it came, an opening to an empty record and an event to the record of its
 -- key.
 abbrev pub OpeningGoesOn : Type 0
-OpeningGoesOn = (key : ℕ) (wanted : Option Services) → (key ≡ 0 → ⊥) → admission_of key (Opens wanted) true false ≡ Takes wanted
+OpeningGoesOn = (key : ℕ) (wanted : Option Services) → (key ≡ 0 → ⊥) → admission_of key (Opens wanted) true false ≡ Ok (Opens wanted)
 
 abbrev pub EventGoesOn : Type 0
-EventGoesOn = (key : ℕ) (e : Event) (full : Bool) → (key ≡ 0 → ⊥) → admission_of key (Meets e) false full ≡ Reaches e
+EventGoesOn = (key : ℕ) (e : Event) (full : Bool) → (key ≡ 0 → ⊥) → admission_of key (Meets e) false full ≡ Ok (Meets e)
 
 -- Whether a record is empty matters only to an opening whose key is not on record: nobody else needs to search for one.
 abbrev pub FullIsReadLast : Type 0

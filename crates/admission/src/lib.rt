@@ -3,65 +3,30 @@
 #![tactic(auto)]
 
 ghost use Rattle.std.specs.Prelude.{◌≡◌};
-ghost use Rattle.admission.specs.Admission.{refusal_in, opening_admitted, event_admitted, admission_of};
+ghost use Rattle.admission.specs.Admission.{refusal_in, admission_of};
 
-use events::{Act, Event};
-use signal::{Answer, Services};
+use events::Act;
+use signal::Answer;
 
-#[derive(Clone, Copy)]
-pub enum Admission {
-    Refuses(Answer),
-    // an opening takes the lowest empty record
-    Takes(Option<Services>),
-    // an event goes to the record of its key
-    Reaches(Event),
-}
-
-impl Admission {
-    // The answer of a refusal; 0 where nothing is refused yet.
-    pub fn refusal(self) -> Answer
-        ensures { result ≡ refusal_in self }
-    {
-        match self {
-            Admission::Refuses(answer) => answer,
-            Admission::Takes(_) => Answer::Done,
-            Admission::Reaches(_) => Answer::Done,
-        }
-    }
-}
-
-// 103, then 104.
-fn on_opening(wanted: Option<Services>, missing: bool, full: bool) -> Admission
-    ensures { result ≡ opening_admitted wanted missing full }
+// The answer of a refusal; 0 where nothing is refused yet.
+pub fn refusal(admission: Result<Act, Answer>) -> Answer
+    ensures { result ≡ refusal_in admission }
 {
-    if missing {
-        if full {
-            return Admission::Refuses(Answer::NoEmptyRecord);
-        }
-        return Admission::Takes(wanted);
-    }
-    Admission::Refuses(Answer::KeyOnRecord)
+    admission.err().unwrap_or(Answer::Done)
 }
 
-// 105.
-fn on_event(event: Event, missing: bool) -> Admission
-    ensures { result ≡ event_admitted event missing }
-{
-    if missing {
-        return Admission::Refuses(Answer::KeyNotOnRecord);
-    }
-    Admission::Reaches(event)
-}
-
-// `missing`: the key is not on record. `full`: no record is empty; it is read only of an opening whose key is missing. 102 comes first.
-pub fn admit(key: u32, act: Act, missing: bool, full: bool) -> Admission
+// What is admitted: an opening takes the lowest empty record, and an event goes to the record of its key. `missing`: the key is not on
+// record. `full`: no record is empty; it is read only of an opening whose key is missing. 102 comes first.
+pub fn admit(key: u32, act: Act, missing: bool, full: bool) -> Result<Act, Answer>
     ensures { result ≡ admission_of key act missing full }
 {
     if key == 0 {
-        return Admission::Refuses(Answer::KeyZero);
+        return Err(Answer::KeyZero);
     }
     match act {
-        Act::Opens(wanted) => on_opening(wanted, missing, full),
-        Act::Meets(event) => on_event(event, missing),
+        Act::Opens(_) if !missing => Err(Answer::KeyOnRecord),
+        Act::Opens(_) if full => Err(Answer::NoEmptyRecord),
+        Act::Meets(_) if missing => Err(Answer::KeyNotOnRecord),
+        _ => Ok(act),
     }
 }

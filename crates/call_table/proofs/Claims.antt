@@ -8,6 +8,7 @@ use lib.Dec.{eqb}
 use lib.ListN.{get_or, length, length-set, set}
 use lib.Seq.{set-get_or, set_out}
 use borrow.Author.Tests.{eqb-false, eqb-true}
+use Rattle.std.specs.Prelude.{Some, None, Err, is_none}
 use Rattle.signal.specs.Numbers.{answer_number}
 use Rattle.signal.specs.Signals.{places}
 use Rattle.signal.specs.declared.Answer.{Answer}
@@ -16,19 +17,16 @@ use Rattle.events.specs.declared.Act.{Act}
 use Rattle.events.specs.declared.Act.TheVariants.{Meets, Opens}
 use Rattle.events.specs.declared.Event.{Event}
 use Rattle.admission.specs.Admission.{act_admitted}
-use Rattle.admission.specs.declared.Admission.TheVariants.{Refuses}
 use Rattle.call.specs.Claims.{Lawful}
 use Rattle.call.specs.Events.{Half, handled_at}
 use Rattle.call.specs.Record.{emptied}
 use Rattle.call.specs.declared.Call.{Call}
 use Rattle.call_table.proofs.Decided.{Placed, decided, ran_is}
-use Rattle.call_table.proofs.Search.{FoundAt, call_of_lem, first, found_at, on_record_lem, sought_is, stands_on_record}
+use Rattle.call_table.proofs.Search.{Found, FoundAt, call_of_lem, first, found_at, on_record_lem, sought_is, stands_on_record}
 use Rattle.call_table.proofs.Stored.{event_changes_its_call, opening_takes_its_record}
 use Rattle.call_table.specs.Claims.{call_of, has_call}
 use Rattle.call_table.specs.Fit.{fit_table}
-use Rattle.call_table.specs.Table.{call_in, ran_by, decide_fit_of, is_nothing, placed_at, ran_fit_of, ran_of, refused_at, table_of}
-use Rattle.call_table.specs.declared.Found.{Found}
-use Rattle.call_table.specs.declared.Found.TheVariants.{At, Nothing}
+use Rattle.call_table.specs.Table.{call_in, ran_by, decide_fit_of, placed_at, ran_fit_of, ran_of, refused_at, table_of}
 use Rattle.call_table.specs.declared.Ran.{Ran}
 use Rattle.call_table.specs.Claims as claim
 use Rattle.call.proofs.Claims as any
@@ -46,7 +44,7 @@ past_the_end ys a = (set_out ys (length ys) emptied (omega arith), refl)
 
 module _ (half : Half) (L : Lawful half) where
   -- an event that a record refuses leaves that record, which stands where it was found
-  meeting_quiet : (ys : List Call) (key i : ℕ) (c : Call) → first key 0 ys ≡ At i c → (e : Event) → Quiet ys (placed_at i (handled_at half c e))
+  meeting_quiet : (ys : List Call) (key i : ℕ) (c : Call) → first key 0 ys ≡ Some (i, c) → (e : Event) → Quiet ys (placed_at i (handled_at half c e))
   meeting_quiet ys key i c p e h =
       let f : FoundAt key 0 i c ys = found_at key 0 i c ys p in
       let kept = any.refusal_leaves_record half L c e (handled_at half c e) refl h in
@@ -85,19 +83,19 @@ module _ (half : Half) (L : Lawful half) where
   -- and the answer that is given
   answer_by_found : (n key : ℕ) (act : Act) (found free : Found) →
       answer_number (decide_fit_of half n (record { found = found; free = free }) key act).done.answer
-      ≡ cond (eqb key 0) 102 (answer_by (call_in found) (not (is_nothing found)) (not (is_nothing free)) act)
+      ≡ cond (eqb key 0) 102 (answer_by (call_in found) (not (is_none found)) (not (is_none free)) act)
   answer_by_found n key act found free = by_key (eqb key 0) act found free
     where
       by_key : (b : Bool) (act : Act) (found free : Found) →
           answer_number (ran_by half n (record { found = found; free = free }) key
-          (cond b (Refuses KeyZero) (act_admitted act (is_nothing found) (is_nothing free)))).done.answer
-          ≡ cond b 102 (answer_by (call_in found) (not (is_nothing found)) (not (is_nothing free)) act)
+          (cond b (Err KeyZero) (act_admitted act (is_none found) (is_none free)))).done.answer
+          ≡ cond b 102 (answer_by (call_in found) (not (is_none found)) (not (is_none free)) act)
       by_key true act found free = refl
-      by_key false (Opens wanted) (At i c) free = refl
-      by_key false (Opens wanted) Nothing (At i c) = refl
-      by_key false (Opens wanted) Nothing Nothing = refl
-      by_key false (Meets e) (At i c) free = refl
-      by_key false (Meets e) Nothing free = refl
+      by_key false (Opens wanted) (Some (i, c)) free = refl
+      by_key false (Opens wanted) None (Some (i, c)) = refl
+      by_key false (Opens wanted) None None = refl
+      by_key false (Meets e) (Some (i, c)) free = refl
+      by_key false (Meets e) None free = refl
 
   pub answers_in_order : claim.AnswersInOrder half
   answers_in_order ys key act = rw (ran_is half ys key act, sought_is ys key) (by_fit (fit_table ys))

@@ -8,21 +8,19 @@ use mathlib.Core.Path.{◌≡◌, ap, refl}
 use lib.Dec.{eqb}
 use lib.ListN.{length}
 use borrow.Author.Tests.{eqb-false}
+use Rattle.std.specs.Prelude.{Some, None, Err, is_none}
 use Rattle.signal.specs.Numbers.{answer_number}
 use Rattle.signal.specs.declared.Answer.{Answer}
 use Rattle.signal.specs.declared.Answer.TheVariants.{KeyNotOnRecord, KeyOnRecord, KeyZero, NoEmptyRecord, TableUnfit}
 use Rattle.events.specs.declared.Act.{Act}
 use Rattle.events.specs.declared.Act.TheVariants.{Meets, Opens}
 use Rattle.admission.specs.Admission.{act_admitted}
-use Rattle.admission.specs.declared.Admission.TheVariants.{Refuses}
 use Rattle.call.specs.Events.{Half, handled_at}
 use Rattle.call.specs.Record.{opened_for}
 use Rattle.call.specs.declared.Call.{Call}
-use Rattle.call_table.proofs.Search.{first, seen_is, sought_is}
+use Rattle.call_table.proofs.Search.{Found, first, seen_is, sought_is}
 use Rattle.call_table.specs.Fit.{fit_keys, fit_table}
-use Rattle.call_table.specs.Table.{ran_by, decide_of, is_nothing, placed_at, ran_fit_of, ran_of, refused_at}
-use Rattle.call_table.specs.declared.Found.{Found}
-use Rattle.call_table.specs.declared.Found.TheVariants.{At, Nothing}
+use Rattle.call_table.specs.Table.{ran_by, decide_of, placed_at, ran_fit_of, ran_of, refused_at}
 use Rattle.call_table.specs.declared.Ran.{Ran}
 
 module _ (half : Half) where
@@ -39,20 +37,20 @@ module _ (half : Half) where
     -- P of what is stored: a new call at the first empty record, where no record has its key; and what an event makes of the first record with its key
     abbrev pub Placed : Act → Type 0
     Placed (Opens wanted) =
-        (i : ℕ) (c : Call) → (key ≡ 0 → ⊥) → first key 0 ys ≡ Nothing → first 0 0 ys ≡ At i c → P (placed_at i (opened_for key wanted))
-    Placed (Meets e) = (i : ℕ) (c : Call) → (key ≡ 0 → ⊥) → first key 0 ys ≡ At i c → P (placed_at i (handled_at half c e))
+        (i : ℕ) (c : Call) → (key ≡ 0 → ⊥) → first key 0 ys ≡ None → first 0 0 ys ≡ Some (i, c) → P (placed_at i (opened_for key wanted))
+    Placed (Meets e) = (i : ℕ) (c : Call) → (key ≡ 0 → ⊥) → first key 0 ys ≡ Some (i, c) → P (placed_at i (handled_at half c e))
 
     by_found : Refused → (act : Act) → Placed act → (key ≡ 0 → ⊥) → (found free : Found) → first key 0 ys ≡ found → first 0 0 ys ≡ free →
-        P (ran_by half (length ys) (record { found = found; free = free }) key (act_admitted act (is_nothing found) (is_nothing free)))
-    by_found refused (Opens wanted) placed z (At i c) free p q = refused KeyOnRecord (λ h. omega arith)
-    by_found refused (Opens wanted) placed z Nothing (At i c) p q = placed i c z p q
-    by_found refused (Opens wanted) placed z Nothing Nothing p q = refused NoEmptyRecord (λ h. omega arith)
-    by_found refused (Meets e) placed z (At i c) free p q = placed i c z p
-    by_found refused (Meets e) placed z Nothing free p q = refused KeyNotOnRecord (λ h. omega arith)
+        P (ran_by half (length ys) (record { found = found; free = free }) key (act_admitted act (is_none found) (is_none free)))
+    by_found refused (Opens wanted) placed z (Some (i, c)) free p q = refused KeyOnRecord (λ h. omega arith)
+    by_found refused (Opens wanted) placed z None (Some (i, c)) p q = placed i c z p q
+    by_found refused (Opens wanted) placed z None None p q = refused NoEmptyRecord (λ h. omega arith)
+    by_found refused (Meets e) placed z (Some (i, c)) free p q = placed i c z p
+    by_found refused (Meets e) placed z None free p q = refused KeyNotOnRecord (λ h. omega arith)
 
     by_key : Refused → (act : Act) → Placed act → (b : Bool) → eqb key 0 ≡ b →
         P (ran_by half (length ys) (record { found = first key 0 ys; free = first 0 0 ys }) key
-        (cond b (Refuses KeyZero) (act_admitted act (is_nothing (first key 0 ys)) (is_nothing (first 0 0 ys)))))
+        (cond b (Err KeyZero) (act_admitted act (is_none (first key 0 ys)) (is_none (first 0 0 ys)))))
     by_key refused act placed true t = refused KeyZero (λ h. omega arith)
     by_key refused act placed false t = by_found refused act placed (eqb-false key 0 t) (first key 0 ys) (first 0 0 ys) refl refl
 

@@ -9,7 +9,7 @@ use lib.Dec.{ltb}
 use lib.ListN.{get_or, length, length-set, set}
 use lib.Seq.{get_or-set_other, get_or-set_same}
 use borrow.Author.Tests.{ltb-false, ltb-true}
-use Rattle.std.specs.Prelude.{Option}
+use Rattle.std.specs.Prelude.{Some, None, is_none, Option}
 use Rattle.signal.specs.declared.Answer.{Answer}
 use Rattle.signal.specs.declared.Services.{Services}
 use Rattle.events.specs.declared.Act.{Act}
@@ -23,11 +23,9 @@ use Rattle.call.specs.declared.Call.{Call}
 use Rattle.call_table.proofs.Claims.{past_the_end}
 use Rattle.call_table.proofs.Fit.{Well, by_equal, one_well}
 use Rattle.call_table.proofs.Decided.{Placed, decided}
-use Rattle.call_table.proofs.Search.{FoundAt, first, found_at, on_record_lem, stands_on_record}
+use Rattle.call_table.proofs.Search.{Found, FoundAt, first, found_at, on_record_lem, stands_on_record}
 use Rattle.call_table.specs.Claims.{FitRecord, FitTable, InUse}
-use Rattle.call_table.specs.Table.{is_nothing, placed_at, refused_at}
-use Rattle.call_table.specs.declared.Found.{Found}
-use Rattle.call_table.specs.declared.Found.TheVariants.{At, Nothing}
+use Rattle.call_table.specs.Table.{placed_at, refused_at}
 use Rattle.call_table.specs.declared.Ran.{Ran}
 use Rattle.call_table.specs.Claims as claim
 use Rattle.call.proofs.Claims as any
@@ -120,16 +118,16 @@ module _ (half : Half) (L : Lawful half) where
   refusal_keeps ys f a = rw (past_the_end ys a).0 f
 
   -- a new call at an empty record, where no record has its key
-  opening_keeps : (ys : List Call) → FitTable ys → (key : ℕ) → (key ≡ 0 → ⊥) → first key 0 ys ≡ Nothing → (wanted : Option Services) (i : ℕ) (c : Call) →
-      first 0 0 ys ≡ At i c → Keeps ys (placed_at i (opened_for key wanted))
+  opening_keeps : (ys : List Call) → FitTable ys → (key : ℕ) → (key ≡ 0 → ⊥) → first key 0 ys ≡ None → (wanted : Option Services) (i : ℕ) (c : Call) →
+      first 0 0 ys ≡ Some (i, c) → Keeps ys (placed_at i (opened_for key wanted))
   opening_keeps ys f key n none wanted i c p =
       let a : FoundAt 0 0 i c ys = found_at 0 0 i c ys p in
       let li : i < length ys = omega (arith, a.at, a.inside) in
       put_fit ys f i (opened_for key wanted).call li (opened_fit key wanted n)
-      (λ j o l e. absurd (true≢false (sym (stands_on_record key j ys l e) ∙ (sym (on_record_lem key 0 ys) ∙ ap (λ (x : Found). not (is_nothing x)) none))))
+      (λ j o l e. absurd (true≢false (sym (stands_on_record key j ys l e) ∙ (sym (on_record_lem key 0 ys) ∙ ap (λ (x : Found). not (is_none x)) none))))
 
   -- what an event makes of the record of its key
-  meeting_keeps : (ys : List Call) → FitTable ys → (key : ℕ) → (key ≡ 0 → ⊥) → (i : ℕ) (c : Call) → first key 0 ys ≡ At i c → (e : Event) →
+  meeting_keeps : (ys : List Call) → FitTable ys → (key : ℕ) → (key ≡ 0 → ⊥) → (i : ℕ) (c : Call) → first key 0 ys ≡ Some (i, c) → (e : Event) →
       Keeps ys (placed_at i (handled_at half c e))
   meeting_keeps ys f key n i c p e =
       let a : FoundAt key 0 i c ys = found_at key 0 i c ys p in

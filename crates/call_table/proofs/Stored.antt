@@ -7,6 +7,7 @@ use mathlib.Core.List.{List, [], ◌∷◌}
 use mathlib.Core.Path.{◌∙◌, ◌≡◌, ap, refl, sym}
 use lib.ListN.{get_or, length, set}
 use borrow.Author.Tests.{eq-eqb, ne_eqb}
+use Rattle.std.specs.Prelude.{Some}
 use Rattle.signal.specs.Numbers.{answer_number}
 use Rattle.events.specs.declared.Act.TheVariants.{Meets, Opens}
 use Rattle.call.specs.Events.{Half, handled_at}
@@ -17,7 +18,6 @@ use Rattle.call_table.proofs.Decided.{decided}
 use Rattle.call_table.proofs.Search.{FoundAt, call_of_lem, first, found_at}
 use Rattle.call_table.specs.Claims.{call_of, call_replaced}
 use Rattle.call_table.specs.Table.{call_in}
-use Rattle.call_table.specs.declared.Found.TheVariants.{At}
 use Rattle.call_table.specs.declared.Ran.{Ran}
 use Rattle.call_table.specs.Claims as claim
 
@@ -30,7 +30,7 @@ module _ (half : Half) where
       rw (ne_eqb c.key k (b 0 (omega arith)))
       (ap (λ (r : List Call). c ∷ r) (put_first k d cs i (le_of_suc-le-suc l) e (λ m n. b (suc m) (suc-le-suc n))))
 
-  put_found : (ys : List Call) (k i : ℕ) (c d : Call) → first k 0 ys ≡ At i c → set ys i d ≡ call_replaced k d ys
+  put_found : (ys : List Call) (k i : ℕ) (c d : Call) → first k 0 ys ≡ Some (i, c) → set ys i d ≡ call_replaced k d ys
   put_found ys k i c d p =
       let f : FoundAt k 0 i c ys = found_at k 0 i c ys p in
       let at : i ≡ f.place = omega (arith, f.at) in

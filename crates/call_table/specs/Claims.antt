@@ -2,8 +2,8 @@
 -- decided, and `table_of` the row after it: the two that the contracts of `handle` and `handle64` fix. "01" is the scope document, a demand
 -- one of the three in README.md. Proofs: proofs/Fit.antt, Stored.antt, Claims.antt, Given.antt,
 -- Stopped.antt and Kept.antt. Assumes nothing.
-use Rattle.std.specs.Prelude.{◌<◌, ◌≤◌, ℕ, Bool, cond, false, not, true, List, [], ◌++◌, ◌∷◌, map, ◌↔◌, ◌⊎◌, ◌≡◌, eqb, get_or, length, set}
-use Rattle.std.specs.Prelude.{Option}
+use Rattle.std.specs.Prelude.{◌<◌, ◌≤◌, ℕ, Bool, cond, false, not, true, List, [], ◌++◌, ◌∷◌, map, ◌↔◌, ◌⊎◌, ◌≡◌, eqb, get_or, length, set, Option}
+use Rattle.std.specs.Prelude.{None}
 use Rattle.signal.specs.Numbers.{answer_number}
 use Rattle.signal.specs.Signals.{places}
 use Rattle.signal.specs.declared.Services.{Services}
@@ -16,10 +16,9 @@ use Rattle.call.specs.Events.{Half, handled_at}
 use Rattle.call.specs.Record.{emptied, opened_for}
 use Rattle.call.specs.declared.Call.{Call}
 use Rattle.call_table.specs.Fit.{fit_table}
-use Rattle.call_table.specs.Reading.{decide_at_of, fetched_from, needed_by, places_at_start, places_in}
-use Rattle.call_table.specs.Table.{ran_fit_of, ran_of, table_fit_of, table_of}
-use Rattle.call_table.specs.declared.Found.TheVariants.{Nothing}
-use Rattle.call_table.specs.declared.Places.{Places}
+use Rattle.call_table.specs.Reading.{decide_at_of, fetched_from, needed_by, places_in}
+use Rattle.call_table.specs.Table.{ran_fit_of, ran_of, sought_at_start, table_fit_of, table_of}
+use Rattle.call_table.specs.declared.Sought.{Sought}
 use Rattle.lent.specs.Keyed as keyed
 
 -- 01, 101, of one record in use: it is not in Null, has a last number of at least 1, and its held numbers lie between 1 and the last and
@@ -193,8 +192,8 @@ NothingBehindIsRead = (xs ys zs : List Call) (c : Call) → places_in (xs ++ (c 
 -- For key 0 no record has a say in the search, and none is fetched.
 abbrev pub NothingIsReadForKeyZero : Type 0
 NothingIsReadForKeyZero =
-    (ys : List Call) (act : Act) → (places_in ys 0 ≡ places_at_start 0)
-    × (fetched_from ys (needed_by (length ys) (places_in ys 0) act) ≡ Nothing)
+    (ys : List Call) (act : Act) → (places_in ys 0 ≡ sought_at_start 0)
+    × (fetched_from ys (needed_by (length ys) (places_in ys 0) act) ≡ None)
 
 -- Of a record nothing but its key has a say in the search.
 abbrev pub KeysAloneAreRead : Type 0
@@ -202,8 +201,7 @@ KeysAloneAreRead = (ys zs : List Call) (key : ℕ) → map (λ c. c.key) ys ≡ 
 
 -- For an opening no record is fetched, whatever the search has found.
 abbrev pub OpeningFetchesNone : Type 0
-OpeningFetchesNone =
-    (ys : List Call) (s : Places) (wanted : Option Services) → fetched_from ys (needed_by (length ys) s (Opens wanted)) ≡ Nothing
+OpeningFetchesNone = (ys : List Call) (s : Sought ℕ) (wanted : Option Services) → fetched_from ys (needed_by (length ys) s (Opens wanted)) ≡ None
 
 -- all of them, of one half
 pub record TableClaims (half : Half) : Type 0 where

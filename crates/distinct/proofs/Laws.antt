@@ -61,18 +61,6 @@ has_suc x (y ∷ ys) (suc j) l =
 pub has_next : (x : ℕ) (xs : List ℕ) (j : ℕ) → j < length xs → has x (take (j + 1) xs) ≡ (has x (take j xs) || eqb (get_or xs j 0) x)
 has_next x xs j l = rw add-one (has_suc x xs j l)
 
-pub has_start : (x : ℕ) (xs : List ℕ) → has x (take 0 xs) ≡ false
-unfolding has
-has_start x [] = refl
-has_start x (y ∷ ys) = refl
-
--- one place more: x is there; it is not
-pub next_yes : (x : ℕ) (xs : List ℕ) (j : ℕ) → j < length xs → get_or xs j 0 ≡ x → has x (take (j + 1) xs) ≡ true
-next_yes x xs j l e = has_next x xs j l ∙ or_right (has x (take j xs)) (eqb (get_or xs j 0) x) (eq-eqb (get_or xs j 0) x e)
-
-pub next_no : (x : ℕ) (xs : List ℕ) (j : ℕ) → j < length xs → (get_or xs j 0 ≡ x → ⊥) → has x (take (j + 1) xs) ≡ has x (take j xs)
-next_no x xs j l e = has_next x xs j l ∙ (ap (λ (t : Bool). has x (take j xs) || t) (ne_eqb (get_or xs j 0) x e) ∙ or-false (has x (take j xs)))
-
 -- of the first n: none of them is x; not none of them is x
 pub among_none : (x : ℕ) (xs : List ℕ) (n : ℕ) → n ≤ length xs → has x (take n xs) ≡ false → (j : ℕ) → j < n → get_or xs j 0 ≡ x → ⊥
 among_none x xs n l h j lt e =

@@ -5,37 +5,26 @@
 // the square of its length, and one that is spread about its length (docs/SPEED.md). It knows nothing of tables.
 #![tactic(auto)]
 
-ghost use Rattle.std.specs.Prelude.{◌≡◌, true, ℕ, ◌<◌, ◌≤◌, length, take, get_or};
+ghost use Rattle.std.specs.Prelude.{◌≡◌, true, ℕ, ◌<◌, get_or};
 ghost use Rattle.distinct.specs.Distinct.{has, distinct_of, unique_of};
 ghost use Rattle.distinct.specs.Chain.{slot_of, Walk};
 
-fn wide(x: u16) -> usize
-    ensures { result ≡ x }
-{
-    x as usize
-}
-
 // The slot of x: the upper bits of its product with a number near 2^32 divided by the golden ratio.
+#[tactic(auto, unfolding(crate::specs::Chain::slot_of))]
 fn slot(x: u32) -> usize
     ensures { (result ≡ slot_of x) × (result < 1024) }
 {
-    let w = x as u64;
-    let b = w * 2654435761 / 4194304 % 1024;
-    b as usize
+    (u64::from(x) * 2654435761 / 4194304 % 1024) as usize
 }
 
-// x is one of the first n keys. Every one is looked at, so that the loop goes several keys at a time.
-fn among(keys: &[u32], n: usize, x: u32) -> bool
-    requires { n ≤ length keys.now }
-    ensures { result ≡ has x (take n keys.now) }
+// x is one of the keys. Every one is looked at, so that the loop goes several keys at a time.
+#[tactic(auto, using(crate::proofs::Laws::has_next), unfolding(crate::specs::Distinct::has))]
+fn among(keys: &[u32], x: u32) -> bool
+    ensures { result ≡ has x keys.now }
 {
     let mut found = false;
-    let mut j = 0;
-    while j < n {
-        if keys[j] == x {
-            found = true;
-        }
-        j += 1;
+    for &key in keys {
+        found |= key == x;
     }
     found
 }
@@ -47,8 +36,7 @@ fn clear(keys: &[u32], next: &[u16; 1024], at: usize, x: u32, i: usize) -> bool
     ensures { result ≡ true → (j : ℕ) → j < i → get_or keys.now j 0 ≡ x → ⊥ }
 {
     let mut a = at;
-    let mut left: usize = 8;
-    while 0 < left {
+    for _ in 0..8 {
         if a == 0 {
             return true;
         }
@@ -56,8 +44,7 @@ fn clear(keys: &[u32], next: &[u16; 1024], at: usize, x: u32, i: usize) -> bool
         if keys[p] == x {
             return false;
         }
-        a = wide(next[p]);
-        left -= 1;
+        a = usize::from(next[p]);
     }
     false
 }
@@ -66,15 +53,10 @@ fn clear(keys: &[u32], next: &[u16; 1024], at: usize, x: u32, i: usize) -> bool
 fn plain(keys: &[u32]) -> bool
     ensures { result ≡ distinct_of keys.now }
 {
-    let mut i = 0;
-    while i < keys.len() {
-        let x = keys[i];
-        if x != 0 {
-            if among(keys, i, x) {
-                return false;
-            }
+    for (i, &x) in keys.iter().enumerate() {
+        if x != 0 && among(&keys[..i], x) {
+            return false;
         }
-        i += 1;
     }
     true
 }
@@ -88,21 +70,16 @@ pub fn distinct(keys: &[u32]) -> bool
     }
     let mut head = [0u16; 1024];
     let mut next = [0u16; 1024];
-    let mut i = 0;
-    while i < keys.len() {
-        let x = keys[i];
+    for (i, &x) in keys.iter().enumerate() {
         let b = slot(x);
         let h = head[b];
         if x != 0 {
-            if !clear(keys, &next, wide(h), x, i) {
-                if among(keys, i, x) {
-                    return false;
-                }
+            if !clear(keys, &next, usize::from(h), x, i) && among(&keys[..i], x) {
+                return false;
             }
             head[b] = (i + 1) as u16;
         }
         next[i] = h;
-        i += 1;
     }
     true
 }
@@ -111,8 +88,5 @@ pub fn distinct(keys: &[u32]) -> bool
 pub fn unique(keys: &[u32], n: usize) -> bool
     ensures { result ≡ unique_of keys.now n }
 {
-    if keys.len() < n {
-        return false;
-    }
-    distinct(&keys[..n])
+    n <= keys.len() && distinct(&keys[..n])
 }

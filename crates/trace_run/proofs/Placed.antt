@@ -7,10 +7,14 @@ use mathlib.Core.Path.{◌≡◌, refl, sym, ap, ◌∙◌}
 use mathlib.Core.Bool.{Bool, true, false, cond, not, true≢false}
 use mathlib.Core.Logic.{⊎_elim}
 use mathlib.Core.List.{List, [], ◌∷◌}
-use lib.Dec.{eqb, leb, ltb}
+use lib.Dec.{eqb, ltb}
 use lib.ListN.{get_or-eq_default, get_or, length, length-set, set}
 use lib.Seq.{get_or-set_same, get_or-set_other, set-get_or, set_out}
-use borrow.Author.Tests.{eq-eqb, ne_eqb, eqb-false, eqb-true, lt-leb, lt-ltb, ltb-true, ltb-false}
+use borrow.Author.Tests.{eq-eqb, ne_eqb, eqb-false, eqb-true, ltb-true, ltb-false}
+use Rattle.std.specs.Prelude.{Option, Some, None, Result, Err, is_none, unwrap_or}
+use Rattle.std.specs.List.{position_from}
+use Rattle.std.proofs.lemmas.Iterator.Adapters.{position_from-zero}
+use Rattle.std.proofs.lemmas.Option.{none-some}
 use Rattle.lent.specs.Search.{first_from}
 use Rattle.signal.specs.declared.Answer.{Answer}
 use Rattle.signal.specs.declared.Answer.TheVariants.{KeyZero, KeyOnRecord, NoEmptyRecord, KeyNotOnRecord}
@@ -22,16 +26,12 @@ use Rattle.call.specs.Record.{emptied, opened_for}
 use Rattle.call.specs.Events.{half_of, handled_at}
 use Rattle.events.specs.declared.Act.{Act}
 use Rattle.events.specs.declared.Act.TheVariants.{Opens, Meets}
-use Rattle.call_table.specs.declared.Found.{Found}
-use Rattle.call_table.specs.declared.Found.TheVariants.{At, Nothing}
 use Rattle.call_table.specs.declared.Ran.{Ran}
 use Rattle.admission.specs.Admission.{act_admitted, admission_of, refusal_in}
-use Rattle.admission.specs.declared.Admission.{Admission}
-use Rattle.admission.specs.declared.Admission.TheVariants.{Refuses}
 use Rattle.admission.proofs.Claims.{full_is_read_last}
-use Rattle.call_table.specs.Table.{call_in, ran_by, is_nothing, place_in, refused_at, table_of}
+use Rattle.call_table.specs.Table.{call_in, ran_by, refused_at, table_of}
 use Rattle.call_table.specs.Claims.{FitRecord, FitTable, TableClaims, call_of}
-use Rattle.call_table.proofs.Search.{first, sought_is, call_of_lem, FoundAt, found_at, on_record_lem, stands_on_record}
+use Rattle.call_table.proofs.Search.{Found, first, place_of, sought_is, call_of_lem, FoundAt, found_at, on_record_lem, stands_on_record}
 use Rattle.call_table.proofs.Fit.{fit_exactly}
 use Rattle.call_table.proofs.Claims.{past_the_end}
 use Rattle.call.proofs.Ends.{lawful_at}
@@ -53,24 +53,18 @@ call_none k [] h = refl
 call_none k (c ∷ cs) h = rw (ne_eqb c.key k (h 0 (omega arith))) (call_none k cs (λ m l. h (suc m) (suc-le-suc l)))
 
 -- the place of a key among the keys is that of the record which a search finds
-index_from : (k i : ℕ) (ys : List Call) → i + index_of k (keys_in ys) ≡ place_in (i + length ys) (first k i ys)
+index_from : (k i : ℕ) (ys : List Call) → position_from (λ x. eqb x k) i (keys_in ys) ≡ place_of (first k i ys)
 unfolding first_from
 index_from k i [] = refl
 index_from k i (c ∷ cs) = by_test (index_from k (i + 1) cs) (eqb c.key k)
   where
-    by_test : i + 1 + index_of k (keys_in cs) ≡ place_in (i + 1 + length cs) (first k (i + 1) cs) → (b : Bool) →
-        i + cond b 0 (suc (index_of k (keys_in cs))) ≡ place_in (i + suc (length cs)) (cond b (At i c) (first k (i + 1) cs))
-    by_test h true = omega arith
-    by_test h false =
-        let m : i + 1 + length cs ≡ i + suc (length cs) = omega arith in
-        let e : i + suc (index_of k (keys_in cs)) ≡ i + 1 + index_of k (keys_in cs) = omega arith in
-        e ∙ (h ∙ ap (λ (n : ℕ). place_in n (first k (i + 1) cs)) m)
+    by_test : position_from (λ x. eqb x k) (i + 1) (keys_in cs) ≡ place_of (first k (i + 1) cs) → (b : Bool) →
+        cond b (Some i) (position_from (λ x. eqb x k) (i + 1) (keys_in cs)) ≡ place_of (cond b (Some (i, c)) (first k (i + 1) cs))
+    by_test h true = refl
+    by_test h false = h
 
-index_is : (k : ℕ) (ys : List Call) → index_of k (keys_in ys) ≡ place_in (length ys) (first k 0 ys)
-index_is k ys =
-    let e : index_of k (keys_in ys) ≡ 0 + index_of k (keys_in ys) = omega arith in
-    let n : 0 + length ys ≡ length ys = omega arith in
-    e ∙ (index_from k 0 ys ∙ ap (λ (m : ℕ). place_in m (first k 0 ys)) n)
+index_is : (k : ℕ) (ys : List Call) → index_of k (keys_in ys) ≡ place_of (first k 0 ys)
+index_is k ys = position_from-zero (λ x. eqb x k) (keys_in ys) ∙ index_from k 0 ys
 
 -- what a search found stands in the table, first of its key
 record Here (k : ℕ) (ys : List Call) (i : ℕ) (c : Call) : Type 0 where
@@ -79,7 +73,7 @@ record Here (k : ℕ) (ys : List Call) (i : ℕ) (c : Call) : Type 0 where
   named : c.key ≡ k
   before : (m : ℕ) → m < i → (get_or ys m emptied).key ≡ k → ⊥
 
-here : (k : ℕ) (ys : List Call) (i : ℕ) (c : Call) → first k 0 ys ≡ At i c → Here k ys i c
+here : (k : ℕ) (ys : List Call) (i : ℕ) (c : Call) → first k 0 ys ≡ Some (i, c) → Here k ys i c
 here k ys i c p =
     let a : FoundAt k 0 i c ys = found_at k 0 i c ys p in
     let e : a.place ≡ i = omega (arith, a.at) in
@@ -90,9 +84,9 @@ here k ys i c p =
       before = λ m l q. a.before m (omega arith) q;
     }
 
-nowhere : (k : ℕ) (ys : List Call) → first k 0 ys ≡ Nothing → (m : ℕ) → m < length ys → (get_or ys m emptied).key ≡ k → ⊥
+nowhere : (k : ℕ) (ys : List Call) → first k 0 ys ≡ None → (m : ℕ) → m < length ys → (get_or ys m emptied).key ≡ k → ⊥
 nowhere k ys p m l e =
-    true≢false (sym (stands_on_record k m ys l e) ∙ (sym (on_record_lem k 0 ys) ∙ ap (λ (x : Found). not (is_nothing x)) p))
+    true≢false (sym (stands_on_record k m ys l e) ∙ (sym (on_record_lem k 0 ys) ∙ ap (λ (x : Found). not (is_none x)) p))
 
 key_of : {a b : Call} → a ≡ b → a.key ≡ b.key
 key_of e = ap (λ (x : Call). x.key) e
@@ -159,33 +153,27 @@ module _ (node : Node) where
           r.1
 
   -- where an opening or event goes, by what the searches find
-  abbrev place_on : Found → Found → Act → ℕ
-  place_on (At i c) free act = i
-  place_on Nothing free (Opens wanted) = place_in 64 free
-  place_on Nothing free (Meets e) = 64
-
-  -- a search in 64 records finds a place below 64, or nothing
-  abbrev Within : Found → Type 0
-  Within (At i c) = i < 64
-  Within Nothing = Unit {0}
+  abbrev place_on : Found → Found → Act → Option ℕ
+  place_on (Some (i, c)) free act = Some i
+  place_on None free (Opens wanted) = place_of free
+  place_on None free (Meets e) = None
 
   -- where a record is found for it, that is so whether the table is full or not: an opening is asked for an empty one only where its key
   -- is missing
-  admitted_in : (key : ℕ) (act : Act) (found free : Found) → Within found → Within free → place_on found free act < 64 →
-      admission_of key act (leb 64 (place_in 64 found)) false ≡ admission_of key act (is_nothing found) (is_nothing free)
-  admitted_in key act (At i c) free l m h =
-      rw (lt-leb 64 i l) (full_is_read_last.0 key act false ∙ sym (full_is_read_last.0 key act (is_nothing free)))
-  admitted_in key (Opens wanted) Nothing (At i c) l m h = refl
-  admitted_in key (Opens wanted) Nothing Nothing l m h = absurd (omega arith)
-  admitted_in key (Meets e) Nothing free l m h = absurd (omega arith)
+  admitted_in : (key : ℕ) (act : Act) (found free : Found) (j : ℕ) → place_on found free act ≡ Some j →
+      admission_of key act (is_none (place_of found)) false ≡ admission_of key act (is_none found) (is_none free)
+  admitted_in key act (Some (i, c)) free j h = full_is_read_last.0 key act false ∙ sym (full_is_read_last.0 key act (is_none free))
+  admitted_in key (Opens wanted) None (Some (i, c)) j h = refl
+  admitted_in key (Opens wanted) None None j h = absurd (none-some j h)
+  admitted_in key (Meets e) None free j h = absurd (none-some j h)
 
   -- and where none is, the key is missing, and for an opening the table is full
-  admitted_out : (key : ℕ) (act : Act) (found free : Found) → Within found → Within free → 64 ≤ place_on found free act →
-      admission_of key act true true ≡ admission_of key act (is_nothing found) (is_nothing free)
-  admitted_out key act (At i c) free l m h = absurd (omega arith)
-  admitted_out key (Opens wanted) Nothing (At i c) l m h = absurd (omega arith)
-  admitted_out key (Opens wanted) Nothing Nothing l m h = refl
-  admitted_out key (Meets e) Nothing free l m h = refl
+  admitted_out : (key : ℕ) (act : Act) (found free : Found) → place_on found free act ≡ None →
+      admission_of key act true true ≡ admission_of key act (is_none found) (is_none free)
+  admitted_out key act (Some (i, c)) free h = absurd (none-some i (sym h))
+  admitted_out key (Opens wanted) None (Some (i, c)) h = absurd (none-some i (sym h))
+  admitted_out key (Opens wanted) None None h = refl
+  admitted_out key (Meets e) None free h = refl
 
   -- there it is refused
   turned_away_lem : (key : ℕ) (act : Act) (c : Call) →
@@ -193,77 +181,77 @@ module _ (node : Node) where
   turned_away_lem key act c = by_key (eqb key 0) act
     where
       by_key : (b : Bool) (act : Act) →
-          let a = cond b (Refuses KeyZero) (act_admitted act true true) in carried_on node c key a ≡ refused_with (refusal_in a) c
+          let a = cond b (Err KeyZero) (act_admitted act true true) in carried_on node c key a ≡ refused_with (refusal_in a) c
       by_key true act = refl
       by_key false (Opens wanted) = refl
       by_key false (Meets e) = refl
 
   -- the place, by what the searches find
-  place_on_lem : (act : Act) (found free : Found) → Within found → (ks : List ℕ) → index_of 0 ks ≡ place_in 64 free →
-      place_for ks (place_in 64 found) act ≡ place_on found free act
-  place_on_lem act (At i c) free l ks q = rw (lt-ltb i 64 l)
-  place_on_lem (Opens wanted) Nothing free l ks q = q
-  place_on_lem (Meets e) Nothing free l ks q = refl
+  place_on_lem : (act : Act) (found free : Found) (ks : List ℕ) → index_of 0 ks ≡ place_of free →
+      place_for ks (place_of found) act ≡ place_on found free act
+  place_on_lem act (Some (i, c)) free ks q = refl
+  place_on_lem (Opens wanted) None free ks q = q
+  place_on_lem (Meets e) None free ks q = refl
+
+  -- past the end, where there is no place
+  abbrev or_end : Option ℕ → ℕ
+  or_end place = unwrap_or place 64
 
   -- what is decided, and what comes of an admission at a place: the same table, and the same outcome shown
-  abbrev Goes : List Call → ℕ → Admission → ℕ → Ran → Type 0
+  abbrev Goes : List Call → ℕ → Result Act Answer → ℕ → Ran → Type 0
   Goes ys key a j d =
       (set ys d.at d.call ≡ set ys j (carried_on node (get_or ys j emptied) key a).call)
       × (shown_by ys key d ≡ carried_on node (get_or ys j emptied) key a)
 
   -- a refusal leaves the table, and shows the record of the key where it goes
   refusal_goes : (ys : List Call) (key : ℕ) (a : Answer) (j : ℕ) → get_or ys j emptied ≡ call_of key ys →
-      Goes ys key (Refuses a) j (refused_at (length ys) a)
+      Goes ys key (Err a) j (refused_at (length ys) a)
   refusal_goes ys key a j e =
       let q = (past_the_end ys a).0 in
       (q ∙ sym (set-get_or ys j emptied), shown_as (refused_with a (get_or ys j emptied)) _ (ap (call_of key) q ∙ sym e))
 
   module _ (ys : List Call) (f : FitTable ys) (n : length ys ≡ 64) (key : ℕ) where
     -- what stands where a search ends
-    found_there : (k : ℕ) (found : Found) → first k 0 ys ≡ found → get_or ys (place_in 64 found) emptied ≡ call_in found
-    found_there k (At i c) p = (here k ys i c p).there
-    found_there k Nothing p = get_or-eq_default ys emptied (omega arith)
+    found_there : (k : ℕ) (found : Found) → first k 0 ys ≡ found → get_or ys (or_end (place_of found)) emptied ≡ call_in found
+    found_there k (Some (i, c)) p = (here k ys i c p).there
+    found_there k None p = get_or-eq_default ys emptied (omega arith)
 
-    call_there : (k : ℕ) (found : Found) → first k 0 ys ≡ found → get_or ys (place_in 64 found) emptied ≡ call_of k ys
+    call_there : (k : ℕ) (found : Found) → first k 0 ys ≡ found → get_or ys (or_end (place_of found)) emptied ≡ call_of k ys
     call_there k found p = found_there k found p ∙ (sym (ap call_in p) ∙ call_of_lem k 0 ys)
 
-    within : (k : ℕ) (found : Found) → first k 0 ys ≡ found → Within found
-    within k (At i c) p = omega (arith, (here k ys i c p).inside)
-    within k Nothing p = tt
-
     by_found : (act : Act) (found free : Found) → first key 0 ys ≡ found → first 0 0 ys ≡ free → (key ≡ 0 → ⊥) →
-        let a = act_admitted act (is_nothing found) (is_nothing free) in
-        Goes ys key a (place_on found free act) (ran_by (half_of node) (length ys) (record { found = found; free = free }) key a)
-    by_found (Opens wanted) (At i c) free p q z = refusal_goes ys key KeyOnRecord i (call_there key (At i c) p)
-    by_found (Opens wanted) Nothing (At i c) p q z =
+        let a = act_admitted act (is_none found) (is_none free) in
+        Goes ys key a (or_end (place_on found free act)) (ran_by (half_of node) (length ys) (record { found = found; free = free }) key a)
+    by_found (Opens wanted) (Some (i, c)) free p q z = refusal_goes ys key KeyOnRecord i (call_there key (Some (i, c)) p)
+    by_found (Opens wanted) None (Some (i, c)) p q z =
         let h = here 0 ys i c q in (
           refl,
           shown_as (opened_for key wanted) _
               (call_put ys f key z i _ h.inside (λ m l e. nowhere key ys p m (omega (arith, h.inside)) e) refl),
         )
-    by_found (Opens wanted) Nothing Nothing p q z = refusal_goes ys key NoEmptyRecord 64 (call_there key Nothing p)
-    by_found (Meets e) (At i c) free p q z =
+    by_found (Opens wanted) None None p q z = refusal_goes ys key NoEmptyRecord 64 (call_there key None p)
+    by_found (Meets e) (Some (i, c)) free p q z =
         let h = here key ys i c p in
         rw h.there (refl, shown_as (handled_at (half_of node) c e) _ (event_shown ys f key z i c e h))
-    by_found (Meets e) Nothing free p q z = refusal_goes ys key KeyNotOnRecord 64 (call_there key Nothing p)
+    by_found (Meets e) None free p q z = refusal_goes ys key KeyNotOnRecord 64 (call_there key None p)
 
     -- key 0 is found wherever a record is empty, and refused there
     by_zero : (act : Act) (found free : Found) → first key 0 ys ≡ found → first 0 0 ys ≡ free → key ≡ 0 →
-        place_on found free act ≡ place_in 64 found
-    by_zero act (At i c) free p q z = refl
-    by_zero (Meets e) Nothing free p q z = refl
-    by_zero (Opens wanted) Nothing free p q z = ap (place_in 64) (sym q ∙ (ap (λ (k : ℕ). first k 0 ys) (sym z) ∙ p))
+        place_on found free act ≡ place_of found
+    by_zero act (Some (i, c)) free p q z = refl
+    by_zero (Meets e) None free p q z = refl
+    by_zero (Opens wanted) None free p q z = ap place_of (sym q ∙ (ap (λ (k : ℕ). first k 0 ys) (sym z) ∙ p))
 
     by_key : (act : Act) (found free : Found) → first key 0 ys ≡ found → first 0 0 ys ≡ free → (b : Bool) → eqb key 0 ≡ b →
-        let a = cond b (Refuses KeyZero) (act_admitted act (is_nothing found) (is_nothing free)) in
-        Goes ys key a (place_on found free act) (ran_by (half_of node) (length ys) (record { found = found; free = free }) key a)
+        let a = cond b (Err KeyZero) (act_admitted act (is_none found) (is_none free)) in
+        Goes ys key a (or_end (place_on found free act)) (ran_by (half_of node) (length ys) (record { found = found; free = free }) key a)
     by_key act found free p q true t =
-        refusal_goes ys key KeyZero (place_on found free act)
-        (ap (λ (j : ℕ). get_or ys j emptied) (by_zero act found free p q (eqb-true key 0 t)) ∙ call_there key found p)
+        refusal_goes ys key KeyZero (or_end (place_on found free act))
+        (ap (λ (j : Option ℕ). get_or ys (or_end j) emptied) (by_zero act found free p q (eqb-true key 0 t)) ∙ call_there key found p)
     by_key act found free p q false t = by_found act found free p q (eqb-false key 0 t)
 
-    went : (act : Act) → let a = admission_of key act (is_nothing (first key 0 ys)) (is_nothing (first 0 0 ys)) in
-        let j = place_on (first key 0 ys) (first 0 0 ys) act in
+    went : (act : Act) → let a = admission_of key act (is_none (first key 0 ys)) (is_none (first 0 0 ys)) in
+        let j = or_end (place_on (first key 0 ys) (first 0 0 ys) act) in
         (table_of (half_of node) ys key act ≡ set ys j (carried_on node (get_or ys j emptied) key a).call)
         × (shown_of node ys key act ≡ carried_on node (get_or ys j emptied) key a)
     unfolding shown_of
@@ -271,27 +259,26 @@ module _ (node : Node) where
         rw (← (table_claims.fit_needs_no_check ys key act ((fit_exactly ys).1 f)).0, sought_is ys key)
         (by_key act (first key 0 ys) (first 0 0 ys) refl refl (eqb key 0) refl)
 
-    index_within : (k : ℕ) → index_of k (keys_in ys) ≡ place_in 64 (first k 0 ys)
-    index_within k = index_is k ys ∙ ap (λ (m : ℕ). place_in m (first k 0 ys)) n
-
-    module _ (act : Act) (i j : ℕ) (at : i ≡ index_of key (keys_in ys)) (to : j ≡ place_for (keys_in ys) i act) where
-      place_is : j ≡ place_on (first key 0 ys) (first 0 0 ys) act
+    module _ (act : Act) (i : Option ℕ) (at : i ≡ index_of key (keys_in ys)) where
+      place_is : place_on (first key 0 ys) (first 0 0 ys) act ≡ place_for (keys_in ys) i act
       place_is =
-          to ∙ (ap (λ (m : ℕ). place_for (keys_in ys) m act) (at ∙ index_within key)
-          ∙ place_on_lem act (first key 0 ys) (first 0 0 ys) (within key _ refl) (keys_in ys) (index_within 0))
+          sym (ap (λ (m : Option ℕ). place_for (keys_in ys) m act) (at ∙ index_is key ys)
+          ∙ place_on_lem act (first key 0 ys) (first 0 0 ys) (keys_in ys) (index_is 0 ys))
 
       -- at a place of the table, the record there becomes what comes of it, and that is shown
-      pub placed : j < 64 →
-          (table_of (half_of node) ys key act ≡ set ys j (worked_on node (get_or ys j emptied) key act (leb 64 i)).call)
-          × (shown_of node ys key act ≡ worked_on node (get_or ys j emptied) key act (leb 64 i))
-      placed h =
-          let a = admitted_in key act (first key 0 ys) (first 0 0 ys) (within key _ refl) (within 0 _ refl) (rw place_is at h) in
-          rw (at, index_within key, a, place_is) (went act)
+      pub placed : (j : ℕ) → place_for (keys_in ys) i act ≡ Some j →
+          (table_of (half_of node) ys key act ≡ set ys j (worked_on node (get_or ys j emptied) key act (is_none i)).call)
+          × (shown_of node ys key act ≡ worked_on node (get_or ys j emptied) key act (is_none i))
+      placed j h =
+          let to : j ≡ or_end (place_on (first key 0 ys) (first 0 0 ys) act) = sym (ap or_end (place_is ∙ h)) in
+          let a = admitted_in key act (first key 0 ys) (first 0 0 ys) j (place_is ∙ h) in
+          rw (at, index_is key ys, a, to) (went act)
 
       -- past its end, the table stays
-      pub unplaced : 64 ≤ j → (table_of (half_of node) ys key act ≡ ys) × (shown_of node ys key act ≡ unplaced_for key act)
+      pub unplaced : place_for (keys_in ys) i act ≡ None → (table_of (half_of node) ys key act ≡ ys) × (shown_of node ys key act ≡ unplaced_for key act)
       unplaced h =
-          let a = admitted_out key act (first key 0 ys) (first 0 0 ys) (within key _ refl) (within 0 _ refl) (rw place_is at h) in
-          let past : length ys ≤ j = omega arith in
-          let w = rw (← a, ← place_is, get_or-eq_default ys emptied past) at (went act) in
-          (w.0 ∙ set_out ys j _ past, w.1 ∙ turned_away_lem key act emptied)
+          let a = admitted_out key act (first key 0 ys) (first 0 0 ys) (place_is ∙ h) in
+          let past : length ys ≤ 64 = omega arith in
+          let end = ap or_end (place_is ∙ h) in
+          let w = rw (← a, end, get_or-eq_default ys emptied past) at (went act) in
+          (w.0 ∙ set_out ys 64 _ past, w.1 ∙ turned_away_lem key act emptied)

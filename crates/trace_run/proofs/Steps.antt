@@ -1,11 +1,11 @@
 -- One record more of a run, over a fit table. Assumes nothing.
-use Prim.Native.Nat.{ℕ, zero, suc, ◌+◌, ◌-◌, ◌*◌, ◌≤◌, ◌<◌}
+use Prim.Native.Nat.{ℕ, zero, suc, ◌+◌, ◌-◌, ◌*◌, ◌<◌}
 use native.Mathlib.Omega.{arith}
 use mathlib.Core.Path.{◌≡◌, refl, sym, ◌∙◌, ap, subst}
 use mathlib.Core.Bool.{Bool, true, false, cond}
 use mathlib.Core.List.{List, ◌++◌}
-use lib.Dec.{leb}
 use lib.ListN.{length, set, get_or, length-set}
+use Rattle.std.specs.Prelude.{Option, Some, None, is_none}
 use Rattle.lines.specs.Lines.{page, put_text}
 use Rattle.lines.proofs.Laws.{put_none, and_then}
 use Rattle.call.specs.Events.{half_of}
@@ -120,26 +120,26 @@ module _ (node : Node) where
             fit = subst FitTable (sym et) (table_claims.stays_fit t d.key act here.fit);
           }
 
-      module _ (i j : ℕ) (found : i ≡ index_of d.key ks) (place : j ≡ place_for ks i act) where
+      module _ (i : Option ℕ) (found : i ≡ index_of d.key ks) where
         found_is : i ≡ index_of d.key (keys_in t)
         found_is = found ∙ ap (index_of d.key) here.keys
 
-        place_is : j ≡ place_for (keys_in t) i act
-        place_is = place ∙ ap (λ (l : List ℕ). place_for l i act) here.keys
+        place_is : place_for (keys_in t) i act ≡ place_for ks i act
+        place_is = ap (λ (l : List ℕ). place_for l i act) (sym here.keys)
 
-        pub step_in : (o' : Outcome) → j < 64 → o' ≡ worked_on node (get_or t j emptied) d.key act (leb 64 i) →
+        pub step_in : (o' : Outcome) (j : ℕ) → place_for ks i act ≡ Some j → o' ≡ worked_on node (get_or t j emptied) d.key act (is_none i) →
             page z b ≡ put_text (page o at) (line_text w (n + 1) o') →
             Standing w s p xs (suc r) (set t j o'.call) (set ks j o'.call.key) (n + 1) b z
-        step_in o' h eo put =
-            let m = placed node t here.fit here.calls d.key act i j found_is place_is h in
+        step_in o' j h eo put =
+            let m = placed node t here.fit here.calls d.key act i found_is j (place_is ∙ h) in
             onward (set t j o'.call) (set ks j o'.call.key) (ap (λ (y : Outcome). set t j y.call) eo ∙ sym m.0)
             (ap (λ (l : List ℕ). set l j o'.call.key) here.keys ∙ sym (keys_set t j o'.call)) (length-set t j o'.call ∙ here.calls)
             (more o' (eo ∙ sym m.1) put)
 
-        pub step_out : (o' : Outcome) → 64 ≤ j → o' ≡ unplaced_for d.key act → page z b ≡ put_text (page o at) (line_text w (n + 1) o') →
-            Standing w s p xs (suc r) t ks (n + 1) b z
+        pub step_out : (o' : Outcome) → place_for ks i act ≡ None → o' ≡ unplaced_for d.key act →
+            page z b ≡ put_text (page o at) (line_text w (n + 1) o') → Standing w s p xs (suc r) t ks (n + 1) b z
         step_out o' h eo put =
-            let m = unplaced node t here.fit here.calls d.key act i j found_is place_is h in
+            let m = unplaced node t here.fit here.calls d.key act i found_is (place_is ∙ h) in
             onward t ks (sym m.0) here.keys here.calls (more o' (eo ∙ sym m.1) put)
 
   -- after a bad record nothing changes

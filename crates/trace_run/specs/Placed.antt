@@ -1,7 +1,8 @@
 -- The record that an opening or event goes to, found among the keys of the table, and what comes of it. 102 to 105 are decided by
 -- admission, as over a lent row; proofs/Placed.antt says that all of it is what `ran_of` and `table_of` say of a fit table.
 -- Assumes nothing.
-use Rattle.std.specs.Prelude.{ℕ, suc, ◌+◌, ◌≤◌, Bool, cond, false, true, List, [], ◌∷◌, map, ◌≡◌, eqb, ltb}
+use Rattle.std.specs.Prelude.{ℕ, ◌+◌, ◌≤◌, Bool, false, true, List, [], map, ◌≡◌, eqb, Option, Some, None, Result, Ok, Err}
+use Rattle.std.specs.List.{position}
 use Rattle.lines.specs.Lines.{page, put_text}
 use Rattle.signal.specs.declared.Answer.{Answer}
 use Rattle.signal.specs.Signals.{places}
@@ -13,8 +14,6 @@ use Rattle.events.specs.declared.Act.{Act}
 use Rattle.events.specs.declared.Act.TheVariants.{Opens, Meets}
 use Rattle.events.specs.declared.Node.{Node}
 use Rattle.admission.specs.Admission.{admission_of, refusal_in}
-use Rattle.admission.specs.declared.Admission.{Admission}
-use Rattle.admission.specs.declared.Admission.TheVariants.{Reaches, Refuses, Takes}
 use Rattle.call_table.specs.Fit.{fit_table}
 use Rattle.trace_run.specs.Run.{Past}
 use Rattle.trace_run.specs.declared.Stop.{Stop}
@@ -22,29 +21,29 @@ use Rattle.trace_run.specs.declared.Stop.{Stop}
 abbrev pub keys_in : List Call → List ℕ
 keys_in ys = map (λ c. c.key) ys
 
--- the first place of a key, or the length
-abbrev pub index_of : ℕ → List ℕ → ℕ
-index_of k [] = 0
-index_of k (x ∷ xs) = cond (eqb x k) 0 (suc (index_of k xs))
+-- the first place of a key, where one has it
+abbrev pub index_of : ℕ → List ℕ → Option ℕ
+index_of k ks = position (λ x. eqb x k) ks
 
--- the place of an empty record, for what may need one: the lowest, or 64
-abbrev pub empty_for : List ℕ → Act → ℕ
+-- the place of an empty record, for what may need one: the lowest
+abbrev pub empty_for : List ℕ → Act → Option ℕ
 empty_for ks (Opens wanted) = index_of 0 ks
-empty_for ks (Meets e) = 64
+empty_for ks (Meets e) = None
 
 -- the place of the record that is worked on: where the key was found, or else the empty one
-abbrev pub place_for : List ℕ → ℕ → Act → ℕ
-place_for ks found act = cond (ltb found 64) found (empty_for ks act)
+abbrev pub place_for : List ℕ → Option ℕ → Act → Option ℕ
+place_for ks (Some i) act = Some i
+place_for ks None act = empty_for ks act
 
 -- a refusal, with the call that is shown
 abbrev pub refused_with : Answer → Call → Outcome
 refused_with a c = record { answer = a; call = c; signals = places [] }
 
 -- what comes of an admission, at its record
-abbrev pub carried_on : Node → Call → ℕ → Admission → Outcome
-carried_on node c key (Refuses a) = refused_with a c
-carried_on node c key (Takes wanted) = opened_for key wanted
-carried_on node c key (Reaches e) = handled_at (half_of node) c e
+abbrev pub carried_on : Node → Call → ℕ → Result Act Answer → Outcome
+carried_on node c key (Err a) = refused_with a c
+carried_on node c key (Ok (Opens wanted)) = opened_for key wanted
+carried_on node c key (Ok (Meets e)) = handled_at (half_of node) c e
 
 -- what comes of an opening or event at the record that it goes to, which is empty or has its key
 abbrev pub worked_on : Node → Call → ℕ → Act → Bool → Outcome

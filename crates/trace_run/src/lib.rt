@@ -4,13 +4,13 @@
 // fit, and stays so.
 #![tactic(auto)]
 
-ghost use Rattle.std.specs.Prelude.{◌+◌, ◌≤◌, ◌<◌, ◌^◌, true, ◌≡◌, length};
+ghost use Rattle.std.specs.Prelude.{◌+◌, ◌≤◌, ◌<◌, ◌^◌, true, ◌≡◌, length, IfSome};
 ghost use Rattle.call_table.specs.Fit.{fit_table};
 ghost use Rattle.trace_run.specs.Run.{chunk_of};
 ghost use Rattle.trace_run.specs.Placed.{keys_in, index_of, place_for, refused_with, carried_on};
 ghost use Rattle.trace_run.specs.Placed.{worked_on, unplaced_for, stopped_at, Stops};
 
-use admission::Admission;
+use admission::{admit, refusal};
 use call::{Call, Outcome};
 use event_record::{Request, decode, record_at};
 use events::{Act, Node};
@@ -28,45 +28,29 @@ pub struct Stop {
 }
 
 fn keys_of(table: [Call; 64]) -> [u32; 64]
-    ensures { (result ≡ keys_in table) × (length result ≡ 64) }
+    ensures { result ≡ keys_in table }
 {
-    let mut keys = [0u32; 64];
-    let mut index: usize = 0;
-    while index < 64 {
-        let call = table[index];
-        keys[index] = call.key;
-        index += 1;
-    }
-    keys
+    table.map(|call| call.key)
 }
 
-// The first place of a key, or 64.
-fn find(keys: &[u32; 64], key: u32) -> usize
-    requires { length keys.now ≡ 64 }
-    ensures { (result ≡ index_of key keys.now) × (result ≤ 64) }
+// The first place of a key.
+fn find(keys: &[u32; 64], key: u32) -> Option<usize>
+    ensures at { result ≡ index_of key keys.now }
+    ensures within { IfSome result (λ i. i < 64) }
 {
-    let mut index: usize = 0;
-    while index < 64 {
-        if keys[index] == key {
-            return index;
-        }
-        index += 1;
-    }
-    64
+    keys.iter().position(|k| *k == key)
 }
 
-// The place of the record that an opening or event goes to: where its key was found; else, for an opening, the lowest empty one; else 64.
-// An empty record is searched for only where the admission depends on it.
-fn place_for(keys: &[u32; 64], found: usize, act: Act) -> usize
-    requires { length keys.now ≡ 64 }
-    ensures { result ≡ place_for keys.now found act }
+// The place of the record that an opening or event goes to: where its key was found; else, for an opening, the lowest empty one. An empty
+// record is searched for only where the admission depends on it.
+fn place_for(keys: &[u32; 64], found: Option<usize>, act: Act) -> Option<usize>
+    requires { IfSome found (λ i. i < 64) }
+    ensures at { result ≡ place_for keys.now found act }
+    ensures within { IfSome result (λ i. i < 64) }
 {
-    if found < 64 {
-        return found;
-    }
     match act {
-        Act::Opens(_) => find(keys, 0),
-        Act::Meets(_) => 64,
+        Act::Opens(_) if found.is_none() => find(keys, 0),
+        _ => found,
     }
 }
 
@@ -74,20 +58,20 @@ fn refused(answer: Answer, call: Call) -> Outcome
     ensures { result ≡ refused_with answer call }
 {
     Outcome {
-        answer: answer,
-        call: call,
-        signals: [Signal::NONE, Signal::NONE, Signal::NONE, Signal::NONE],
+        answer,
+        call,
+        signals: [Signal::NONE; 4],
     }
 }
 
 // What comes of an admission at its record, which a refusal leaves as it is.
-fn carried(node: Node, call: Call, key: u32, admission: Admission) -> Outcome
+fn carried(node: Node, call: Call, key: u32, admission: Result<Act, Answer>) -> Outcome
     ensures { result ≡ carried_on node call key admission }
 {
     match admission {
-        Admission::Refuses(answer) => refused(answer, call),
-        Admission::Takes(wanted) => Call::opened(key, wanted),
-        Admission::Reaches(event) => call.handle(node, event),
+        Err(answer) => refused(answer, call),
+        Ok(Act::Opens(wanted)) => Call::opened(key, wanted),
+        Ok(Act::Meets(event)) => call.handle(node, event),
     }
 }
 
@@ -95,16 +79,14 @@ fn carried(node: Node, call: Call, key: u32, admission: Admission) -> Outcome
 fn worked(node: Node, call: Call, key: u32, act: Act, missing: bool) -> Outcome
     ensures { result ≡ worked_on node call key act missing }
 {
-    let admission = admission::admit(key, act, missing, false);
-    carried(node, call, key, admission)
+    carried(node, call, key, admit(key, act, missing, false))
 }
 
 // And where it goes to none.
 fn unplaced(key: u32, act: Act) -> Outcome
     ensures { result ≡ unplaced_for key act }
 {
-    let admission = admission::admit(key, act, true, true);
-    refused(admission.refusal(), Call::EMPTY)
+    refused(refusal(admit(key, act, true, true)), Call::EMPTY)
 }
 
 // A bad record ends a run.
@@ -135,28 +117,24 @@ pub fn run(
     let mut keys = keys_of(table);
     let mut line = Line { buffer: out, at: 0 };
     let mut count = start;
-    let records = input.len() / 16;
-    let mut index: usize = 0;
-    while index < records {
+    for index in 0..input.len() / 16 {
         let decoded = decode(node, record_at(input, index * 16));
-        let request = decoded.request;
-        let Request::Asks(act) = request else {
+        let Request::Asks(act) = decoded.request else {
             line.put_word(b"bad\n");
             return stopped(calls, line.at, count, false);
         };
         count += 1;
         let found = find(&keys, decoded.key);
-        let place = place_for(&keys, found, act);
-        if place < 64 {
-            let outcome = worked(node, calls[place], decoded.key, act, found >= 64);
-            let call = outcome.call;
-            calls[place] = call;
-            keys[place] = call.key;
-            trace_line::put_line(&mut line, columns, count, outcome);
-        } else {
-            trace_line::put_line(&mut line, columns, count, unplaced(decoded.key, act));
-        }
-        index += 1;
+        let outcome = match place_for(&keys, found, act) {
+            Some(place) => {
+                let outcome = worked(node, calls[place], decoded.key, act, found.is_none());
+                calls[place] = outcome.call;
+                keys[place] = outcome.call.key;
+                outcome
+            }
+            None => unplaced(decoded.key, act),
+        };
+        trace_line::put_line(&mut line, columns, count, outcome);
     }
     stopped(calls, line.at, count, true)
 }

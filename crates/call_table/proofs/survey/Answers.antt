@@ -15,9 +15,8 @@ loop-i-preserved c =
     let ks = c.loop-i.keys in
     let i = c.loop-i.i in
     let l = c.loop-i-test.true in
-    let kept = c.loop-i.invariant.2 in (
-      omega arith,
-      rw c.step-s.ensures (sym (next_at (λ s i c. step_of s key i c) ys i c.loop-i.s _ l) ∙ c.loop-i.invariant.1),
+    let kept = c.loop-i.invariant.1 in (
+      rw c.step.ensures (sym (next_at (λ s i c. step_of s key i c) ys i c.loop-i.s _ l) ∙ c.loop-i.invariant.0),
       elim c.if-i-keys.branch [
         | then-i-keys w ↦ rw w.keys-is (sym (key_at (λ (c : Call). c.key) ks ys i _ l) ∙ kept)
         | else-i-keys w ↦ rw w.keys-is (sym (key_past (λ (c : Call). c.key) ks ys i emptied l w.if-i-keys.false) ∙ kept)
@@ -30,6 +29,6 @@ returns c =
     let ys = c.args.t.now in
     let i = c.loop-i.i in
     let e : i ≡ length ys = omega arith in (
-      sym (end_at (λ s i c. step_of s key i c) ys i c.loop-i.s e) ∙ c.loop-i.invariant.1,
-      sym (keys_end (λ (c : Call). c.key) c.loop-i.keys ys i e) ∙ c.loop-i.invariant.2,
+      sym (end_at (λ s i c. step_of s key i c) ys i c.loop-i.s e) ∙ c.loop-i.invariant.0,
+      sym (keys_end (λ (c : Call). c.key) c.loop-i.keys ys i e) ∙ c.loop-i.invariant.1,
     )

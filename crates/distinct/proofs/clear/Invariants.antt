@@ -2,8 +2,5 @@
 use Rattle.distinct.specs.Chain.{Walk}
 use Rattle.distinct.proofs.clear.Given as goal
 
-abbrev pub invariant-loop-left : goal.invariant-loop-left
-invariant-loop-left l = Walk l.keys l.next l.i l.x l.a
-
-abbrev pub decreases-loop-left : goal.decreases-loop-left
-decreases-loop-left l = l.left
+abbrev pub invariant-loop : goal.invariant-loop
+invariant-loop l = Walk l.keys l.next l.i l.x l.a

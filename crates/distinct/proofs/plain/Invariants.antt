@@ -1,10 +1,7 @@
 -- The loop's invariant: each key before i is none of those before it, or it is 0. Assumes nothing.
-use Rattle.std.proofs.Common.{length, ◌-◌, ℕ, ◌<◌, ◌≤◌}
+use Rattle.std.proofs.Common.{ℕ, ◌<◌}
 use Rattle.distinct.proofs.Laws.{First}
 use Rattle.distinct.proofs.plain.Given as goal
 
 abbrev pub invariant-loop-i : goal.invariant-loop-i
-invariant-loop-i l = (l.i ≤ length l.keys) × ((k : ℕ) → k < l.i → First l.keys k)
-
-abbrev pub decreases-loop-i : goal.decreases-loop-i
-decreases-loop-i l = length l.keys - l.i
+invariant-loop-i l = (k : ℕ) → k < l.i → First l.keys k
