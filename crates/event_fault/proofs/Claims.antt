@@ -10,8 +10,7 @@ use borrow.Author.Tests.{eqb-true}
 use Rattle.events.specs.declared.Node.{Node}
 use Rattle.events.specs.declared.Node.TheVariants.{Source, Destination}
 use Rattle.event_record.specs.Record.{octet, kind_at}
-use Rattle.event_record.specs.declared.Request.{Request}
-use Rattle.event_record.specs.declared.Request.TheVariants.{Bad}
+use Rattle.events.specs.declared.Act.{Act}
 use Rattle.event_fault.specs.Claims as claim
 use Rattle.event_fault.specs.Fault.{misses, fault_at}
 use Rattle.event_fault.specs.declared.Fault.{Fault}
@@ -19,7 +18,7 @@ use Rattle.std.specs.Prelude.{Option, Some, None}
 use Rattle.event_fault.proofs.Exactly.{Alike, both_bad, both_sound, kind_alike}
 use Rattle.event_fault.proofs.First.{Names, Tells, below, kind_tells}
 
-exactly : (r : Request) (f : Option Fault) → Alike r f → (r ≡ Bad → f ≡ None → ⊥) × ((f ≡ None → ⊥) → r ≡ Bad)
+exactly : (r : Option Act) (f : Option Fault) → Alike r f → (r ≡ None → f ≡ None → ⊥) × ((f ≡ None → ⊥) → r ≡ None)
 exactly r f both_bad = (λ e none. let z : ◌≡◌ {A = ℕ} 0 1 = cc in omega arith, λ h. refl)
 exactly r f both_sound = (λ e none. let z : ◌≡◌ {A = ℕ} 0 1 = cc in omega arith, λ h. absurd (h refl))
 

@@ -7,25 +7,23 @@ use lib.Dec.{eqb, ltb}
 use borrow.Author.Tests.{ltb-true, ltb-false, lt-ltb, le-ltb, ne_eqb}
 use Rattle.events.specs.declared.Act.{Act}
 use Rattle.event_record.specs.Record.{number_of, open_of, connect_of, calling_of, called_of, request_of}
-use Rattle.event_record.specs.declared.Request.{Request}
-use Rattle.event_record.specs.declared.Request.TheVariants.{Bad, Asks}
 use Rattle.event_fault.specs.Fault.{misses, open_fault, connection_fault, connect_fault, calling_fault, called_fault, kind_fault}
 use Rattle.event_fault.specs.declared.Expected.{Expected}
 use Rattle.event_fault.specs.declared.Fault.{Fault}
 use Rattle.std.specs.Prelude.{Option, Some, None}
 use Rattle.event_fault.proofs.ByKind.{by_kind}
 
-pub data Alike : Request → Option Fault → Type 0 where
-  both_bad : {byte value : ℕ} {expected : Expected} → Alike Bad (misses byte value expected)
-  both_sound : {act : Act} → Alike (Asks act) None
+pub data Alike : Option Act → Option Fault → Type 0 where
+  both_bad : {byte value : ℕ} {expected : Expected} → Alike None (misses byte value expected)
+  both_sound : {act : Act} → Alike (Some act) None
 
 -- one test more in front of both
-tested : (t : Bool) (byte value : ℕ) (expected : Expected) {r : Request} {f : Option Fault} → Alike r f →
-    Alike (cond t Bad r) (cond t (misses byte value expected) f)
+tested : (t : Bool) (byte value : ℕ) (expected : Expected) {r : Option Act} {f : Option Fault} → Alike r f →
+    Alike (cond t None r) (cond t (misses byte value expected) f)
 tested true byte value expected a = both_bad
 tested false byte value expected a = a
 
-sound_where : (t : Bool) (act : Act) {r : Request} {f : Option Fault} → Alike r f → Alike (cond t (Asks act) r) (cond t None f)
+sound_where : (t : Bool) (act : Act) {r : Option Act} {f : Option Fault} → Alike r f → Alike (cond t (Some act) r) (cond t None f)
 sound_where true act a = both_sound
 sound_where false act a = a
 
@@ -43,13 +41,13 @@ above_exactly a b c d p q = by_tests (ltb 0 a) (ltb 0 b) refl refl
     by_tests false false e f = le-ltb 65535 (number_of a b c d) (omega (arith, ltb-false 0 a e, ltb-false 0 b f))
 
 tested_twice : (s t : Bool) (byte value other another : ℕ) (expected wanted : Expected) (act : Act) →
-    Alike (cond (s || t) Bad (Asks act)) (cond s (misses byte value expected) (cond t (misses other another wanted) None))
+    Alike (cond (s || t) None (Some act)) (cond s (misses byte value expected) (cond t (misses other another wanted) None))
 tested_twice true t byte value other another expected wanted act = both_bad
 tested_twice false true byte value other another expected wanted act = both_bad
 tested_twice false false byte value other another expected wanted act = both_sound
 
 connection_alike : (a b c d : ℕ) (act : Act) → c < 256 → d < 256 →
-    Alike (cond (ltb 65535 (number_of a b c d)) Bad (Asks act)) (connection_fault a b)
+    Alike (cond (ltb 65535 (number_of a b c d)) None (Some act)) (connection_fault a b)
 connection_alike a b c d act p q = rw (above_exactly a b c d p q) (tested_twice (ltb 0 a) (ltb 0 b) _ _ _ _ _ _ _)
 
 module _ (first second third a b c d : ℕ) (p : c < 256) (q : d < 256) where

@@ -3,7 +3,6 @@
 use Rattle.std.specs.Prelude.{ℕ, ◌≤◌, ◌<◌, Bool, ◌||◌, cond, ◌↔◌, ◌≡◌, List, eqb, None}
 use Rattle.events.specs.declared.Node.{Node}
 use Rattle.event_record.specs.Record.{octet, kind_at, decoded_at}
-use Rattle.event_record.specs.declared.Request.TheVariants.{Bad}
 use Rattle.event_fault.specs.Fault.{misses, fault_at}
 use Rattle.event_fault.specs.declared.Expected.{Expected}
 
@@ -12,7 +11,7 @@ Octets os = (i : ℕ) → octet os i < 256
 
 -- A fault is found exactly where the record is bad.
 abbrev pub ExactlyTheBad : Type 0
-ExactlyTheBad = (node : Node) (os : List ℕ) → Octets os → ((decoded_at node os).request ≡ Bad) ↔ (fault_at node os ≡ None → ⊥)
+ExactlyTheBad = (node : Node) (os : List ℕ) → Octets os → ((decoded_at node os).request ≡ None) ↔ (fault_at node os ≡ None → ⊥)
 
 -- The highest value that is named for each byte (01, "The trace"); 255 where the byte is not read, or may have any value. Of a record: its
 -- kind is byte 0, and byte 1 of an opening tells whether bytes 2 and 3 are read

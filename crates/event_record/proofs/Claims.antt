@@ -27,18 +27,16 @@ use Rattle.event_record.specs.Encoded.{flag_number, present_number, cause_number
 use Rattle.event_record.specs.Claims.{big_endian, EventFits, ActFits}
 use Rattle.event_record.specs.Claims as claim
 use Rattle.event_record.specs.declared.Decoded.{Decoded}
-use Rattle.event_record.specs.declared.Request.{Request}
-use Rattle.event_record.specs.declared.Request.TheVariants.{Bad, Asks}
 
 -- a connection number above 65,535 is bad, whatever stands in the other octets
-bad_either_way : (t : Bool) → cond t Bad Bad ≡ Bad
+bad_either_way : (t : Bool) → ◌≡◌ {A = Option Act} (cond t None None) None
 bad_either_way true = refl
 bad_either_way false = refl
 
-connect_above : (policy n : ℕ) → 65535 < n → connect_of policy n ≡ Bad
+connect_above : (policy n : ℕ) → 65535 < n → connect_of policy n ≡ None
 connect_above policy n h = rw (lt-ltb 65535 n h) (bad_either_way (ltb 1 policy))
 
-called_above : (present number back n : ℕ) → 65535 < n → called_of present number back n ≡ Bad
+called_above : (present number back n : ℕ) → 65535 < n → called_of present number back n ≡ None
 called_above present number back n h = rw (lt-ltb 65535 n h, bad_either_way (ltb 2 back)) (bad_either_way (ltb 1 present))
 
 pub above_is_bad : claim.AboveIsBad
@@ -64,7 +62,7 @@ read_back_number n h =
 
 -- and so is what stands in the octets around the key
 open_back : (hard : Bool) (soft : Soft) →
-    open_of 1 (flag_number hard) (soft_number soft) ≡ Asks (Opens (Some (record { hard = hard; soft = soft })))
+    open_of 1 (flag_number hard) (soft_number soft) ≡ Some (Opens (Some (record { hard = hard; soft = soft })))
 open_back true NoSoft = refl
 open_back true Asymmetric = refl
 open_back true Symmetric = refl
@@ -72,16 +70,16 @@ open_back false NoSoft = refl
 open_back false Asymmetric = refl
 open_back false Symmetric = refl
 
-connect_back : (policy : Bool) (c : ℕ) → c < 65536 → connect_of (flag_number policy) c ≡ Asks (Meets (Connect c policy))
+connect_back : (policy : Bool) (c : ℕ) → c < 65536 → connect_of (flag_number policy) c ≡ Some (Meets (Connect c policy))
 connect_back true c h = rw (le-ltb 65535 c (omega arith))
 connect_back false c h = rw (le-ltb 65535 c (omega arith))
 
-calling_back : (cause : Option ReroutingCause) → calling_of (present_number cause) (cause_number cause) 0 ≡ Asks (Meets (FromParty cause))
+calling_back : (cause : Option ReroutingCause) → calling_of (present_number cause) (cause_number cause) 0 ≡ Some (Meets (FromParty cause))
 calling_back None = refl
 calling_back (Some c) = refl
 
 called_back : (c : ℕ) (cause : Option ReroutingCause) (back : Crankback) → c < 65536 →
-    called_of (present_number cause) (cause_number cause) (crankback_number back) c ≡ Asks (Meets (FromDomain c cause back))
+    called_of (present_number cause) (cause_number cause) (crankback_number back) c ≡ Some (Meets (FromDomain c cause back))
 called_back c None NoCrankback h = rw (le-ltb 65535 c (omega arith))
 called_back c None AlternateFound h = rw (le-ltb 65535 c (omega arith))
 called_back c None NoAlternate h = rw (le-ltb 65535 c (omega arith))
@@ -90,12 +88,12 @@ called_back c (Some n) AlternateFound h = rw (le-ltb 65535 c (omega arith))
 called_back c (Some n) NoAlternate h = rw (le-ltb 65535 c (omega arith))
 
 wanted_back : (w : Option Services) → request_of (open_values w).kind (open_values w).first (open_values w).second (open_values w).third
-    (open_values w).number ≡ Asks (Opens w)
+    (open_values w).number ≡ Some (Opens w)
 wanted_back None = refl
 wanted_back (Some s) = open_back s.hard s.soft
 
 event_back : (e : Event) → EventFits e →
-    request_of (event_values e).kind (event_values e).first (event_values e).second (event_values e).third (event_values e).number ≡ Asks
+    request_of (event_values e).kind (event_values e).first (event_values e).second (event_values e).third (event_values e).number ≡ Some
     (Meets e)
 event_back Trigger f = refl
 event_back PathFound f = refl
@@ -108,7 +106,7 @@ event_back Ready f = refl
 event_back Expiry f = refl
 
 act_back : (act : Act) → ActFits act → request_of (act_values act).kind (act_values act).first (act_values act).second
-    (act_values act).third (act_values act).number ≡ Asks act
+    (act_values act).third (act_values act).number ≡ Some act
 act_back (Opens w) f = wanted_back w
 act_back (Meets e) f = event_back e f
 
@@ -163,7 +161,7 @@ pub open_means : claim.OpenMeans
 open_means q r more = (refl, (refl, (refl, (refl, (refl, (refl, refl))))))
 
 -- a connection below 65,536, spelled by two octets
-connection_is : (f : ℕ → Request) (a b : ℕ) (r : Request) → f (a * 256 + b) ≡ r → f (number_of 0 0 a b) ≡ r
+connection_is : (f : ℕ → Option Act) (a b : ℕ) (r : Option Act) → f (a * 256 + b) ≡ r → f (number_of 0 0 a b) ≡ r
 connection_is f a b r e = ap f (in_two_octets a b) ∙ e
 
 fits_two : (a b : ℕ) → a < 256 → b < 256 → ltb 65535 (a * 256 + b) ≡ false
@@ -175,7 +173,7 @@ connect_means q r s t u v a b more low-a low-b =
     (connection_is (connect_of 0) a b _ (rw fits), connection_is (connect_of 1) a b _ (rw fits))
 
 pub setup_means : claim.SetupMeans
-setup_means code q r s t u v a b c d more = ap (λ (n : ℕ). Asks (Meets (Setup (record { code = code }) n))) (spelled_out a b c d)
+setup_means code q r s t u v a b c d more = ap (λ (n : ℕ). Some (Meets (Setup (record { code = code }) n))) (spelled_out a b c d)
 
 pub calling_means : claim.CallingMeans
 calling_means cause more = (refl, (refl, (refl, (refl, (refl, refl)))))
@@ -200,7 +198,7 @@ called_means cause s t u v a b more low-a low-b =
 other : (n k : ℕ) → k < n → eqb n k ≡ false
 other n k h = ne_eqb n k (omega arith)
 
-kind_above : (n p q r m : ℕ) → 9 < n → request_of n p q r m ≡ Bad
+kind_above : (n p q r m : ℕ) → 9 < n → request_of n p q r m ≡ None
 kind_above n p q r m h =
     simp (
       other n 0 (omega arith),

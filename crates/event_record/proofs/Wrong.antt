@@ -16,12 +16,10 @@ use denote.MutBor.{MutBor}
 use types.Logic.{Logic}
 use prog.Memory.{Memory}
 use prog.Routine.{Routine}
-use Rattle.std.specs.Prelude.{Option, Some}
+use Rattle.std.specs.Prelude.{Option, Some, None}
 use Rattle.event_record.specs.Encoded.{octets_written}
 use Rattle.event_record.specs.Places.{record_at, rest_length}
 use Rattle.event_record.specs.declared.Decoded.{Decoded}
-use Rattle.event_record.specs.declared.Request.TheVariants.{Bad, Asks}
-use Rattle.event_record.specs.declared.Request.{Request}
 use Rattle.events.specs.declared.Act.TheVariants.{Meets, Opens}
 use Rattle.events.specs.declared.Act.{Act}
 use Rattle.events.specs.declared.Node.{Node}
@@ -46,17 +44,17 @@ abbrev lent_mut : {X : Type 0} → X → MutBor X
 lent_mut xs = record { ref_ptr = (0, 0); ghost_name = 0; now = xs }
 
 -- the octets that would be written, under key 0, of what is asked for; none of what is bad
-abbrev written : Request → List ℕ
-written Bad = []
-written (Asks act) = octets_written 0 act
+abbrev written : Option Act → List ℕ
+written None = []
+written (Some act) = octets_written 0 act
 
 -- an opening that names its services
-abbrev named : Bool → Soft → Request
-named hard soft = Asks (Opens (Some (record { hard = hard; soft = soft })))
+abbrev named : Bool → Soft → Option Act
+named hard soft = Some (Opens (Some (record { hard = hard; soft = soft })))
 
 -- a connect for a connection, with the policy
-abbrev connecting : ℕ → Bool → Request
-connecting connection policy = Asks (Meets (Connect connection policy))
+abbrev connecting : ℕ → Bool → Option Act
+connecting connection policy = Some (Meets (Connect connection policy))
 
 module _ {M : Type 1} {𝓤 : Ura M} (𝓛 : Logic 𝓤) (memory : Memory → SProp 𝓤) (run : Routine → Fun 𝓤) where
   -- it is false: the logic proves falsity from it
@@ -70,7 +68,7 @@ module _ {M : Type 1} {𝓤 : Ura M} (𝓛 : Logic 𝓤) (memory : Memory → SP
 
   -- the key is bytes 4 to 7 (01, "The trace"), and not 8 to 11
   pub key_read_behind_its_place :
-      (request : Request) →
+      (request : Option Act) →
       decode_shuts_out (1 ∷ 0 ∷ 0 ∷ 0 ∷ 0 ∷ 0 ∷ 0 ∷ 7 ∷ 0 ∷ 0 ∷ 0 ∷ 9 ∷ 0 ∷ 0 ∷ 0 ∷ 0 ∷ []) (record { key = 9; request = request })
   key_read_behind_its_place request = fact_mono 𝓤 _ _ (λ h. let z : ◌≡◌ {A = ℕ} 9 _ = ap (λ (d : Decoded). d.key) h in omega arith)
 
@@ -86,7 +84,7 @@ module _ {M : Type 1} {𝓤 : Ura M} (𝓛 : Logic 𝓤) (memory : Memory → SP
   pub crankback_of_a_calling_release_not_tested :
       (key : ℕ) (cause : Option ReroutingCause) →
       decode_shuts_out (6 ∷ 0 ∷ 0 ∷ 3 ∷ 0 ∷ 0 ∷ 0 ∷ 7 ∷ 0 ∷ 0 ∷ 0 ∷ 0 ∷ 0 ∷ 0 ∷ 0 ∷ 0 ∷ [])
-      (record { key = key; request = Asks (Meets (FromParty cause)) })
+      (record { key = key; request = Some (Meets (FromParty cause)) })
   crankback_of_a_calling_release_not_tested key cause =
       fact_mono 𝓤 _ _ (λ h. let z : ◌≡◌ {A = ℕ} 16 _ = ap (λ (d : Decoded). length (written d.request)) h in omega arith)
 
@@ -94,7 +92,7 @@ module _ {M : Type 1} {𝓤 : Ura M} (𝓛 : Logic 𝓤) (memory : Memory → SP
   pub cause_present_the_wrong_way_round :
       (key : ℕ) (cause : ReroutingCause) →
       decode_shuts_out (6 ∷ 0 ∷ 4 ∷ 0 ∷ 0 ∷ 0 ∷ 0 ∷ 7 ∷ 0 ∷ 0 ∷ 0 ∷ 0 ∷ 0 ∷ 0 ∷ 0 ∷ 0 ∷ [])
-      (record { key = key; request = Asks (Meets (FromParty (Some cause))) })
+      (record { key = key; request = Some (Meets (FromParty (Some cause))) })
   cause_present_the_wrong_way_round key cause =
       fact_mono 𝓤 _ _ (λ h. let z : ◌≡◌ {A = ℕ} 1 _ = ap (λ (d : Decoded). get_or (written d.request) 1 0) h in omega arith)
 
@@ -105,7 +103,7 @@ module _ {M : Type 1} {𝓤 : Ura M} (𝓛 : Logic 𝓤) (memory : Memory → SP
       (record { key = key; request = named false soft })
   hard_the_wrong_way_round key soft =
       fact_mono 𝓤 _ _ (λ h.
-      let x : ◌≡◌ {A = Request} (named false soft) (named true Symmetric) = ap (λ (d : Decoded). d.request) h in
+      let x : ◌≡◌ {A = Option Act} (named false soft) (named true Symmetric) = ap (λ (d : Decoded). d.request) h in
       let y : ◌≡◌ {A = Services} (record { hard = false; soft = soft }) (record { hard = true; soft = Symmetric }) = cc in
       let z : ◌≡◌ {A = ℕ} 0 1 = ap (λ (s : Services). cond s.hard 1 0) y in
       omega arith)
@@ -117,7 +115,7 @@ module _ {M : Type 1} {𝓤 : Ura M} (𝓛 : Logic 𝓤) (memory : Memory → SP
       (record { key = key; request = connecting connection false })
   policy_the_wrong_way_round key connection =
       fact_mono 𝓤 _ _ (λ h.
-      let y : ◌≡◌ {A = Request} (connecting connection false) (connecting 5 true) = ap (λ (d : Decoded). d.request) h in
+      let y : ◌≡◌ {A = Option Act} (connecting connection false) (connecting 5 true) = ap (λ (d : Decoded). d.request) h in
       let z : ◌≡◌ {A = ℕ} 0 1 = cc in
       omega arith)
 
@@ -125,7 +123,7 @@ module _ {M : Type 1} {𝓤 : Ura M} (𝓛 : Logic 𝓤) (memory : Memory → SP
   pub switchover_code_read_from_byte_2 :
       (key number : ℕ) →
       decode_shuts_out (5 ∷ 1 ∷ 0 ∷ 0 ∷ 0 ∷ 0 ∷ 0 ∷ 7 ∷ 0 ∷ 0 ∷ 0 ∷ 3 ∷ 0 ∷ 0 ∷ 0 ∷ 0 ∷ [])
-      (record { key = key; request = Asks (Meets (Setup (record { code = 0 }) number)) })
+      (record { key = key; request = Some (Meets (Setup (record { code = 0 }) number)) })
   switchover_code_read_from_byte_2 key number =
       fact_mono 𝓤 _ _ (λ h. let z : ◌≡◌ {A = ℕ} 0 _ = ap (λ (d : Decoded). get_or (written d.request) 1 0) h in omega arith)
 

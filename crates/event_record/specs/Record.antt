@@ -9,8 +9,7 @@ use Rattle.events.specs.declared.Event.TheVariants.{Trigger, PathFound, NoPath, 
 use Rattle.events.specs.declared.Act.TheVariants.{Opens, Meets}
 use Rattle.events.specs.declared.Node.{Node}
 use Rattle.events.specs.declared.Node.TheVariants.{Source, Destination}
-use Rattle.event_record.specs.declared.Request.{Request}
-use Rattle.event_record.specs.declared.Request.TheVariants.{Bad, Asks}
+use Rattle.events.specs.declared.Act.{Act}
 use Rattle.event_record.specs.declared.Decoded.{Decoded}
 
 abbrev pub octet : List ℕ → ℕ → ℕ
@@ -32,43 +31,43 @@ abbrev pub cause_of : ℕ → ℕ → Option ReroutingCause
 cause_of present n = cond (eqb present 0) None (Some (record { number = n }))
 
 -- open: byte 1 is 0 for default services, and bytes 2 and 3 are then not read
-abbrev pub open_of : ℕ → ℕ → ℕ → Request
+abbrev pub open_of : ℕ → ℕ → ℕ → Option Act
 open_of named hard soft =
-    cond (eqb named 0) (Asks (Opens None))
-    (cond (ltb 1 named) Bad
-    (cond (ltb 1 hard) Bad
-    (cond (ltb 2 soft) Bad (Asks (Opens (Some (record { hard = eqb hard 1; soft = soft_of soft })))))))
+    cond (eqb named 0) (Some (Opens None))
+    (cond (ltb 1 named) None
+    (cond (ltb 1 hard) None
+    (cond (ltb 2 soft) None (Some (Opens (Some (record { hard = eqb hard 1; soft = soft_of soft })))))))
 
 -- connect: byte 1 is policy; a connection number above 65,535 is bad
-abbrev pub connect_of : ℕ → ℕ → Request
-connect_of policy connection = cond (ltb 1 policy) Bad (cond (ltb 65535 connection) Bad (Asks (Meets (Connect connection (eqb policy 1)))))
+abbrev pub connect_of : ℕ → ℕ → Option Act
+connect_of policy connection = cond (ltb 1 policy) None (cond (ltb 65535 connection) None (Some (Meets (Connect connection (eqb policy 1)))))
 
 -- a release from the calling side: crankback is named of every release, and tested here too
-abbrev pub calling_of : ℕ → ℕ → ℕ → Request
-calling_of present n back = cond (ltb 1 present) Bad (cond (ltb 2 back) Bad (Asks (Meets (FromParty (cause_of present n)))))
+abbrev pub calling_of : ℕ → ℕ → ℕ → Option Act
+calling_of present n back = cond (ltb 1 present) None (cond (ltb 2 back) None (Some (Meets (FromParty (cause_of present n)))))
 
 -- and from the called side, for a connection
-abbrev pub called_of : ℕ → ℕ → ℕ → ℕ → Request
+abbrev pub called_of : ℕ → ℕ → ℕ → ℕ → Option Act
 called_of present n back connection =
-    cond (ltb 1 present) Bad
-    (cond (ltb 2 back) Bad
-    (cond (ltb 65535 connection) Bad (Asks (Meets (FromDomain connection (cause_of present n) (crankback_of back))))))
+    cond (ltb 1 present) None
+    (cond (ltb 2 back) None
+    (cond (ltb 65535 connection) None (Some (Meets (FromDomain connection (cause_of present n) (crankback_of back))))))
 
 -- the events that are only a key
-abbrev pub plain_of : ℕ → Request
+abbrev pub plain_of : ℕ → Option Act
 plain_of kind =
-    cond (eqb kind 1) (Asks (Meets Trigger))
-    (cond (eqb kind 2) (Asks (Meets PathFound))
-    (cond (eqb kind 3) (Asks (Meets NoPath))
-    (cond (eqb kind 8) (Asks (Meets Ready))
-    (cond (eqb kind 9) (Asks (Meets Expiry)) Bad))))
+    cond (eqb kind 1) (Some (Meets Trigger))
+    (cond (eqb kind 2) (Some (Meets PathFound))
+    (cond (eqb kind 3) (Some (Meets NoPath))
+    (cond (eqb kind 8) (Some (Meets Ready))
+    (cond (eqb kind 9) (Some (Meets Expiry)) None))))
 
 -- byte 0 is the kind; of a setup, byte 1 is the switchover code, whatever it is
-abbrev pub request_of : ℕ → ℕ → ℕ → ℕ → ℕ → Request
+abbrev pub request_of : ℕ → ℕ → ℕ → ℕ → ℕ → Option Act
 request_of kind first second third number =
     cond (eqb kind 0) (open_of first second third)
     (cond (eqb kind 4) (connect_of first number)
-    (cond (eqb kind 5) (Asks (Meets (Setup (record { code = first }) number)))
+    (cond (eqb kind 5) (Some (Meets (Setup (record { code = first }) number)))
     (cond (eqb kind 6) (calling_of first second third)
     (cond (eqb kind 7) (called_of first second third number) (plain_of kind)))))
 

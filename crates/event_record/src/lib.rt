@@ -15,17 +15,11 @@ ghost use Rattle.events.specs.declared.Event.TheVariants.{FromParty, FromDomain}
 use events::{Act, Event, Node};
 use signal::{Crankback, ReroutingCause, Services, Soft, Switchover};
 
-// What the octets before and behind the key ask for.
-#[derive(Clone, Copy)]
-pub enum Request {
-    Bad,
-    Asks(Act),
-}
-
+// The key, and what the octets before and behind it ask for; nothing where the record is bad.
 #[derive(Clone, Copy)]
 pub struct Decoded {
     pub key: u32,
-    pub request: Request,
+    pub request: Option<Act>,
 }
 
 // What is written of an event besides its key: octets 0 to 3, and the number that stands behind the key.
@@ -42,33 +36,27 @@ struct Values {
 fn number(first: u8, second: u8, third: u8, fourth: u8) -> u32
     ensures { result ≡ number_of first second third fourth }
 {
-    let high = first as u32 * 256 + second as u32;
-    let low = third as u32 * 256 + fourth as u32;
-    high * 65536 + low
+    u32::from_be_bytes([first, second, third, fourth])
 }
 
 fn soft(number: u8) -> Soft
     ensures { result ≡ soft_of number }
 {
-    if number == 0 {
-        return Soft::NoSoft;
+    match number {
+        0 => Soft::NoSoft,
+        1 => Soft::Asymmetric,
+        _ => Soft::Symmetric,
     }
-    if number == 1 {
-        return Soft::Asymmetric;
-    }
-    Soft::Symmetric
 }
 
 fn crankback(number: u8) -> Crankback
     ensures { result ≡ crankback_of number }
 {
-    if number == 0 {
-        return Crankback::NoCrankback;
+    match number {
+        0 => Crankback::NoCrankback,
+        1 => Crankback::AlternateFound,
+        _ => Crankback::NoAlternate,
     }
-    if number == 1 {
-        return Crankback::AlternateFound;
-    }
-    Crankback::NoAlternate
 }
 
 fn cause(present: u8, number: u8) -> Option<ReroutingCause>
@@ -80,127 +68,86 @@ fn cause(present: u8, number: u8) -> Option<ReroutingCause>
     Some(ReroutingCause { number })
 }
 
-fn open(named: u8, hard: u8, kind: u8) -> Request
+fn open(named: u8, hard: u8, kind: u8) -> Option<Act>
     ensures { result ≡ open_of named hard kind }
 {
     if named == 0 {
-        return Request::Asks(Act::Opens(None));
+        return Some(Act::Opens(None));
     }
-    if 1 < named {
-        return Request::Bad;
-    }
-    if 1 < hard {
-        return Request::Bad;
-    }
-    if 2 < kind {
-        return Request::Bad;
+    if 1 < named || 1 < hard || 2 < kind {
+        return None;
     }
     let services = Services {
         hard: hard == 1,
         soft: soft(kind),
     };
-    Request::Asks(Act::Opens(Some(services)))
+    Some(Act::Opens(Some(services)))
 }
 
-fn connect(policy: u8, connection: u32) -> Request
+fn connect(policy: u8, connection: u32) -> Option<Act>
     ensures { result ≡ connect_of policy connection }
 {
-    if 1 < policy {
-        return Request::Bad;
+    if 1 < policy || 65535 < connection {
+        return None;
     }
-    if 65535 < connection {
-        return Request::Bad;
-    }
-    Request::Asks(Act::Meets(Event::Connect(connection as u16, policy == 1)))
+    Some(Act::Meets(Event::Connect(connection as u16, policy == 1)))
 }
 
-fn calling(present: u8, number: u8, back: u8) -> Request
+fn calling(present: u8, number: u8, back: u8) -> Option<Act>
     ensures { result ≡ calling_of present number back }
 {
-    if 1 < present {
-        return Request::Bad;
+    if 1 < present || 2 < back {
+        return None;
     }
-    if 2 < back {
-        return Request::Bad;
-    }
-    Request::Asks(Act::Meets(Event::FromParty(cause(present, number))))
+    Some(Act::Meets(Event::FromParty(cause(present, number))))
 }
 
-fn called(present: u8, number: u8, back: u8, connection: u32) -> Request
+fn called(present: u8, number: u8, back: u8, connection: u32) -> Option<Act>
     ensures { result ≡ called_of present number back connection }
 {
-    if 1 < present {
-        return Request::Bad;
-    }
-    if 2 < back {
-        return Request::Bad;
-    }
-    if 65535 < connection {
-        return Request::Bad;
+    if 1 < present || 2 < back || 65535 < connection {
+        return None;
     }
     let received = cause(present, number);
     let found = crankback(back);
-    Request::Asks(Act::Meets(Event::FromDomain(connection as u16, received, found)))
+    Some(Act::Meets(Event::FromDomain(connection as u16, received, found)))
 }
 
 // The events that are only a key.
-fn plain(kind: u8) -> Request
+fn plain(kind: u8) -> Option<Act>
     ensures { result ≡ plain_of kind }
 {
-    if kind == 1 {
-        return Request::Asks(Act::Meets(Event::Trigger));
+    match kind {
+        1 => Some(Act::Meets(Event::Trigger)),
+        2 => Some(Act::Meets(Event::PathFound)),
+        3 => Some(Act::Meets(Event::NoPath)),
+        8 => Some(Act::Meets(Event::Ready)),
+        9 => Some(Act::Meets(Event::Expiry)),
+        _ => None,
     }
-    if kind == 2 {
-        return Request::Asks(Act::Meets(Event::PathFound));
-    }
-    if kind == 3 {
-        return Request::Asks(Act::Meets(Event::NoPath));
-    }
-    if kind == 8 {
-        return Request::Asks(Act::Meets(Event::Ready));
-    }
-    if kind == 9 {
-        return Request::Asks(Act::Meets(Event::Expiry));
-    }
-    Request::Bad
 }
 
-fn asked(kind: u8, first: u8, second: u8, third: u8, number: u32) -> Request
+fn asked(kind: u8, first: u8, second: u8, third: u8, number: u32) -> Option<Act>
     ensures { result ≡ request_of kind first second third number }
 {
-    if kind == 0 {
-        return open(first, second, third);
+    match kind {
+        0 => open(first, second, third),
+        4 => connect(first, number),
+        5 => Some(Act::Meets(Event::Setup(Switchover { code: first }, number))),
+        6 => calling(first, second, third),
+        7 => called(first, second, third, number),
+        _ => plain(kind),
     }
-    if kind == 4 {
-        return connect(first, number);
-    }
-    if kind == 5 {
-        return Request::Asks(Act::Meets(Event::Setup(Switchover { code: first }, number)));
-    }
-    if kind == 6 {
-        return calling(first, second, third);
-    }
-    if kind == 7 {
-        return called(first, second, third, number);
-    }
-    plain(kind)
 }
 
 // Which release a kind is: at the destination the calling side's names the connection.
 pub fn kind_at(node: Node, kind: u8) -> u8
     ensures { result ≡ kind_at node kind }
 {
-    match node {
-        Node::Source => kind,
-        Node::Destination => {
-            if kind == 6 {
-                return 7;
-            }
-            if kind == 7 {
-                return 6;
-            }
-            kind
-        }
+    match (node, kind) {
+        (Node::Destination, 6) => 7,
+        (Node::Destination, 7) => 6,
+        _ => kind,
     }
 }
 
@@ -318,30 +265,24 @@ fn act_values(act: Act) -> Values
     }
 }
 
-// The lowest octet of a number.
-fn octet(number: u32) -> u8
-    ensures { result ≡ number % 256 }
-{
-    (number % 256) as u8
-}
-
 fn laid_out(key: u32, values: Values) -> [u8; 16]
     ensures { result ≡ laid_out key values }
 {
-    let number = values.number;
+    let [k0, k1, k2, k3] = key.to_be_bytes();
+    let [n0, n1, n2, n3] = values.number.to_be_bytes();
     [
         values.kind,
         values.first,
         values.second,
         values.third,
-        octet(key / 16777216),
-        octet(key / 65536),
-        octet(key / 256),
-        octet(key),
-        octet(number / 16777216),
-        octet(number / 65536),
-        octet(number / 256),
-        octet(number),
+        k0,
+        k1,
+        k2,
+        k3,
+        n0,
+        n1,
+        n2,
+        n3,
         0,
         0,
         0,
@@ -401,11 +342,6 @@ pub fn keep_rest(octets: &mut [u8], filled: usize) -> usize
         return 0;
     }
     let kept = filled % 16;
-    let whole = filled - kept;
-    let mut index: usize = 0;
-    while index < kept {
-        octets[index] = octets[whole + index];
-        index += 1;
-    }
+    octets.copy_within(filled - kept..filled, 0);
     kept
 }

@@ -7,7 +7,6 @@
 
 mod print;
 
-use event_record::Request;
 use events::Node;
 use lines::Line;
 use std::io::{Stderr, Stdin, Stdout};
@@ -65,7 +64,7 @@ impl Console {
             let record = event_record::record_at(octets, index * 16);
             let decoded = event_record::decode(self.node, record);
             count = count.saturating_add(1);
-            let Request::Asks(act) = decoded.request else {
+            let Some(act) = decoded.request else {
                 streams::write_line(&mut self.stdout, &line)?;
                 self.refuse(count, record);
                 return Err(Stop::Bad);

@@ -7,7 +7,6 @@ use Rattle.events.specs.declared.Node.{Node}
 use Rattle.event_record.specs.Record.{decoded_at}
 use Rattle.event_record.specs.Encoded.{written_at}
 use Rattle.event_record.specs.Claims.{Fits}
-use Rattle.event_record.specs.declared.Request.TheVariants.{Asks}
 use Rattle.event_words.specs.Words.{event_text}
 use Rattle.script_line.specs.Script.{parsed_of}
 
@@ -17,13 +16,13 @@ abbrev pub RoundTrip : Type 0
 RoundTrip =
     (node : Node) (key : ℕ) (act : Act) → Fits key act →
     (parsed_of node (event_text node key act) ≡ Ok (Some (key, act)))
-    × (decoded_at node (written_at node key act) ≡ record { key = key; request = Asks act })
+    × (decoded_at node (written_at node key act) ≡ record { key = key; request = Some act })
 
 -- Whatever a line is read as, its numbers have a place in a record, and the record that is written of it decodes to the same key and event.
 abbrev pub WrittenAsRead : Type 0
 WrittenAsRead =
     (node : Node) (line : List ℕ) (key : ℕ) (act : Act) → parsed_of node line ≡ Ok (Some (key, act)) →
-    Fits key act × (decoded_at node (written_at node key act) ≡ record { key = key; request = Asks act })
+    Fits key act × (decoded_at node (written_at node key act) ≡ record { key = key; request = Some act })
 
 -- A comment changes nothing: a line is read as it is without one, so that its comment need not be kept.
 abbrev pub CommentsAreNotRead : Type 0

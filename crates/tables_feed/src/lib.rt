@@ -10,7 +10,6 @@ mod first;
 mod octets;
 mod print;
 
-use event_record::Request;
 use events::{Node, NodeAct};
 use std::io::{Stdin, Stdout};
 use streams::Stop;
@@ -67,7 +66,7 @@ impl Console {
         }
         let mut table = octets::records(&body[..count * 20]).ok_or(Stop::Bad)?;
         let event = event_record::decode(self.node, event_record::record_at(body, count * 20));
-        let Request::Asks(act) = event.request else {
+        let Some(act) = event.request else {
             return Err(Stop::Bad);
         };
         let node = self.node;

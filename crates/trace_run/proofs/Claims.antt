@@ -1,4 +1,5 @@
 -- The claims on a run (specs/Claims), proved. Assumes nothing.
+use Rattle.std.specs.Prelude.{None, Option, Some}
 use Prim.Native.Nat.{ℕ, zero, suc, ◌+◌, ◌*◌, ◌≤◌}
 use native.Mathlib.Omega.{arith}
 use mathlib.Core.Path.{◌≡◌, refl, sym, ◌∙◌, ap}
@@ -20,8 +21,7 @@ use Rattle.call_table.specs.Claims.{FitTable, TableClaims}
 use Rattle.call_table.proofs.Fit.{fit_exactly}
 use Rattle.call.proofs.Ends.{lawful_at}
 use Rattle.call_table.proofs.All as any
-use Rattle.event_record.specs.declared.Request.{Request}
-use Rattle.event_record.specs.declared.Request.TheVariants.{Bad, Asks}
+use Rattle.events.specs.declared.Act.{Act}
 use Rattle.event_record.specs.Record.{decoded_at}
 use Rattle.trace_line.specs.declared.Columns.{Columns}
 use Rattle.trace_line.specs.Line.{first_line, numbers_text, rest_text, line_text}
@@ -68,10 +68,10 @@ module _ (node : Node) where
       checked_run node asked (replicate n emptied) ≡ unchecked_run node asked (replicate n emptied)
   no_check n few asked = same_run asked (replicate n emptied) (empty_is_fit n few)
 
-  on_fit : (w : Columns) (p : Past) (key : ℕ) (q : Request) → FitTable p.table → FitTable (on_request node w p key q).table
+  on_fit : (w : Columns) (p : Past) (key : ℕ) (q : Option Act) → FitTable p.table → FitTable (on_request node w p key q).table
   unfolding on_request
-  on_fit w p key Bad f = f
-  on_fit w p key (Asks act) f = table_claims.stays_fit p.table key act f
+  on_fit w p key None f = f
+  on_fit w p key (Some act) f = table_claims.stays_fit p.table key act f
 
   by_good : (w : Columns) (s : List ℕ) (p : Past) (r : ℕ) (b : Bool) → FitTable (after_records node w s p r).table →
       FitTable
@@ -95,11 +95,11 @@ module _ (node : Node) where
   abbrev behind : List ℕ → Past → Past
   behind front q = record { table = q.table; text = front ++ q.text; count = q.count; good = q.good }
 
-  on_behind : (w : Columns) (front : List ℕ) (q : Past) (key : ℕ) (x : Request) →
+  on_behind : (w : Columns) (front : List ℕ) (q : Past) (key : ℕ) (x : Option Act) →
       on_request node w (behind front q) key x ≡ behind front (on_request node w q key x)
   unfolding on_request
-  on_behind w front q key Bad = λ i. record { table = q.table; text = append_assoc front q.text bad_line i; count = q.count; good = false }
-  on_behind w front q key (Asks act) = λ i.
+  on_behind w front q key None = λ i. record { table = q.table; text = append_assoc front q.text bad_line i; count = q.count; good = false }
+  on_behind w front q key (Some act) = λ i.
       record {
         table = table_of (half_of node) q.table key act;
         text = append_assoc front q.text (line_text w (q.count + 1) (shown_of node q.table key act)) i;

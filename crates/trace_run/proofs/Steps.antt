@@ -21,7 +21,6 @@ use Rattle.call_table.proofs.Fit.{fit_exactly}
 use Rattle.call.proofs.Ends.{lawful_at}
 use Rattle.call_table.proofs.All as any
 use Rattle.event_record.specs.declared.Decoded.{Decoded}
-use Rattle.event_record.specs.declared.Request.TheVariants.{Bad, Asks}
 use Rattle.event_record.specs.Record.{decoded_at}
 use Rattle.trace_line.specs.declared.Columns.{Columns}
 use Rattle.trace_line.specs.Line.{line_text}
@@ -60,32 +59,32 @@ module _ (node : Node) where
         (sym good)
         ∙ ap (on_decoded node w (after_records node w s p r)) (sym read)
 
-    one_good : (act : Act) → d.request ≡ Asks act →
-        after_records node w s p (suc r) ≡ on_request node w (after_records node w s p r) d.key (Asks act)
+    one_good : (act : Act) → d.request ≡ Some act →
+        after_records node w s p (suc r) ≡ on_request node w (after_records node w s p r) d.key (Some act)
     one_good act x = opened ∙ ap (on_request node w (after_records node w s p r) d.key) x
 
-    one_bad : d.request ≡ Bad → after_records node w s p (suc r) ≡ on_request node w (after_records node w s p r) d.key Bad
+    one_bad : d.request ≡ None → after_records node w s p (suc r) ≡ on_request node w (after_records node w s p r) d.key None
     one_bad x = opened ∙ ap (on_request node w (after_records node w s p r) d.key) x
 
   on_good : (w : Columns) (q : Past) (key : ℕ) (act : Act) →
-      ((on_request node w q key (Asks act)).table ≡ table_of (half_of node) q.table key act)
-      × (((on_request node w q key (Asks act)).text ≡ q.text ++ line_text w (q.count + 1) (shown_of node q.table key act))
-      × (((on_request node w q key (Asks act)).count ≡ q.count + 1) × ((on_request node w q key (Asks act)).good ≡ true)))
+      ((on_request node w q key (Some act)).table ≡ table_of (half_of node) q.table key act)
+      × (((on_request node w q key (Some act)).text ≡ q.text ++ line_text w (q.count + 1) (shown_of node q.table key act))
+      × (((on_request node w q key (Some act)).count ≡ q.count + 1) × ((on_request node w q key (Some act)).good ≡ true)))
   unfolding on_request
   on_good w q key act = (refl, (refl, (refl, refl)))
 
   on_bad : (w : Columns) (q : Past) (key : ℕ) →
-      ((on_request node w q key Bad).table ≡ q.table)
-      × (((on_request node w q key Bad).text ≡ q.text ++ bad_line)
-      × (((on_request node w q key Bad).count ≡ q.count) × ((on_request node w q key Bad).good ≡ false)))
+      ((on_request node w q key None).table ≡ q.table)
+      × (((on_request node w q key None).text ≡ q.text ++ bad_line)
+      × (((on_request node w q key None).count ≡ q.count) × ((on_request node w q key None).good ≡ false)))
   unfolding on_request
   on_bad w q key = (refl, (refl, (refl, refl)))
 
   module _ (w : Columns) (s : List ℕ) (p : Past) (xs : List ℕ) (r : ℕ) (t : List Call) (ks : List ℕ) (n at : ℕ) (o : List ℕ)
       (here : Standing w s p xs r t ks n at o)
       (d : Decoded) (read : d ≡ decoded_at node (record_at s (r * 16))) (b : ℕ) (z : List ℕ) where
-    module _ (act : Act) (x : d.request ≡ Asks act) where
-      is : after_records node w s p (suc r) ≡ on_request node w (after_records node w s p r) d.key (Asks act)
+    module _ (act : Act) (x : d.request ≡ Some act) where
+      is : after_records node w s p (suc r) ≡ on_request node w (after_records node w s p r) d.key (Some act)
       is = one_good w s p r d here.good read act x
 
       -- one line more, of an outcome that is shown
@@ -167,14 +166,14 @@ module _ (node : Node) where
 
   pub ends_bad : (w : Columns) (s : List ℕ) (p : Past) (xs : List ℕ) (r m : ℕ) (t : List Call) (ks : List ℕ) (n at : ℕ) (o : List ℕ) →
       Standing w s p xs r t ks n at o → r < m →
-      (d : Decoded) → d ≡ decoded_at node (record_at s (r * 16)) → d.request ≡ Bad → (b : ℕ) (z : List ℕ) →
+      (d : Decoded) → d ≡ decoded_at node (record_at s (r * 16)) → d.request ≡ None → (b : ℕ) (z : List ℕ) →
       page z b ≡ put_text (page o at) bad_line → Answered w s p xs m t n false b z
   ends_bad w s p xs r m t ks n at o here h d read x b z put =
-      let e : after_records node w s p (suc r) ≡ on_request node w (after_records node w s p r) d.key Bad =
+      let e : after_records node w s p (suc r) ≡ on_request node w (after_records node w s p r) d.key None =
       one_bad w s p r d here.good read x in
       let v = on_bad w (after_records node w s p r) d.key in
       let k : m - suc r + suc r ≡ m = omega arith in
-      let u : after_records node w s p m ≡ on_request node w (after_records node w s p r) d.key Bad =
+      let u : after_records node w s p m ≡ on_request node w (after_records node w s p r) d.key None =
       ap (after_records node w s p) (sym k) ∙ (still w s p (suc r) (m - suc r) (ap (λ (y : Past). y.good) e ∙ v.1.1.1) ∙ e) in
       record {
         table = here.table ∙ sym (ap (λ (y : Past). y.table) u ∙ v.0);

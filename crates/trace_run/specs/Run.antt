@@ -1,6 +1,6 @@
 -- What a run of the trace prints (01, "The trace"): event records of 16 octets each, over a table of calls. Each is one opening or event by
 -- key, as `call_table::handle` does it at an end of the call: `ran_of` and `table_of` are the two that its contract fixes. Assumes nothing.
-use Rattle.std.specs.Prelude.{ℕ, zero, suc, ◌+◌, ◌*◌, ◌/◌, Bool, true, false, cond, List, [], ◌∷◌, ◌++◌, length}
+use Rattle.std.specs.Prelude.{ℕ, zero, suc, ◌+◌, ◌*◌, ◌/◌, Bool, true, false, cond, List, [], ◌∷◌, ◌++◌, length, None, Option, Some}
 use Rattle.lines.specs.Lines.{ascii}
 use Rattle.call.specs.Events.{half_of}
 use Rattle.call.specs.declared.Call.{Call}
@@ -10,8 +10,6 @@ use Rattle.events.specs.declared.Node.{Node}
 use Rattle.call_table.specs.Claims.{call_of}
 use Rattle.call_table.specs.Table.{ran_of, table_of}
 use Rattle.event_record.specs.declared.Decoded.{Decoded}
-use Rattle.event_record.specs.declared.Request.{Request}
-use Rattle.event_record.specs.declared.Request.TheVariants.{Bad, Asks}
 use Rattle.event_record.specs.Places.{record_at}
 use Rattle.event_record.specs.Record.{decoded_at}
 use Rattle.trace_line.specs.declared.Columns.{Columns}
@@ -43,9 +41,9 @@ module _ (node : Node) where
       }
 
   -- a record that has been read
-  unfoldable pub on_request : Columns → Past → ℕ → Request → Past
-  on_request w p key Bad = record { table = p.table; text = p.text ++ bad_line; count = p.count; good = false }
-  on_request w p key (Asks act) =
+  unfoldable pub on_request : Columns → Past → ℕ → Option Act → Past
+  on_request w p key None = record { table = p.table; text = p.text ++ bad_line; count = p.count; good = false }
+  on_request w p key (Some act) =
       record {
         table = table_of (half_of node) p.table key act;
         text = p.text ++ line_text w (p.count + 1) (shown_of p.table key act);

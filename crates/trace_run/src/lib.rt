@@ -12,7 +12,7 @@ ghost use Rattle.trace_run.specs.Placed.{worked_on, unplaced_for, stopped_at, St
 
 use admission::{admit, refusal};
 use call::{Call, Outcome};
-use event_record::{Request, decode, record_at};
+use event_record::{decode, record_at};
 use events::{Act, Node};
 use lines::Line;
 use signal::{Answer, Signal};
@@ -119,7 +119,7 @@ pub fn run(
     let mut count = start;
     for index in 0..input.len() / 16 {
         let decoded = decode(node, record_at(input, index * 16));
-        let Request::Asks(act) = decoded.request else {
+        let Some(act) = decoded.request else {
             line.put_word(b"bad\n");
             return stopped(calls, line.at, count, false);
         };

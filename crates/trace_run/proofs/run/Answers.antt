@@ -36,7 +36,7 @@ loop-index-preserved c =
     let a = c.args in
     let l = c.loop-index in
     let d = c.decode-decoded.result in
-    let act = c.in-Asks.act in
+    let act = c.in-Some.act in
     let read : d ≡ decoded_at a.node (record_at a.input.now (l.index * 16)) =
     c.decode-decoded.ensures ∙ ap (decoded_at a.node) c.record_at.ensures in
     let put = page_put _ _ _ c.put_line.ensures in (
@@ -47,12 +47,12 @@ loop-index-preserved c =
             let missing = ap (worked_on a.node _ d.key act) (turned _ _ w.is_none.ensures) in
             rw (add-one l.index, w.calls-is, w.keys-is)
             (step_in a.node a.columns a.input.now (begin a.table a.start) a.out.now l.index l.calls l.keys l.count l.line.at l.line.buffer.now l.invariant.2
-            d read _ _ act c.in-Asks.is c.find-found.result c.find-found.ensures.at w.worked-outcome.result w.in-Some.place
+            d read _ _ act c.in-Some.is c.find-found.result c.find-found.ensures.at w.worked-outcome.result w.in-Some.place
             (sym w.in-Some.ensures.at) (w.worked-outcome.ensures ∙ missing) (rw w.outcome-is at put))
         | in-None w ↦
             rw (add-one l.index, w.calls-is, w.keys-is)
             (step_out a.node a.columns a.input.now (begin a.table a.start) a.out.now l.index l.calls l.keys l.count l.line.at l.line.buffer.now l.invariant.2
-            d read _ _ act c.in-Asks.is c.find-found.result c.find-found.ensures.at w.unplaced-outcome.result (sym w.in-None.ensures.at)
+            d read _ _ act c.in-Some.is c.find-found.result c.find-found.ensures.at w.unplaced-outcome.result (sym w.in-None.ensures.at)
             w.unplaced-outcome.ensures (rw w.outcome-is at put))
       ],
     )
