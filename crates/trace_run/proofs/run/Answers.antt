@@ -7,7 +7,7 @@ use Rattle.trace_run.specs.Placed.{worked_on}
 use Rattle.trace_run.specs.Run.{begin}
 use Rattle.trace_run.proofs.Steps.{begins, step_in, step_out, ends, ends_bad}
 use Rattle.trace_run.proofs.run.Goals as goal
-use Rattle.trace_run.proofs.run.Goals.{in-Some, in-None}
+use Rattle.trace_run.proofs.run.Goals.{in-Some-place_for, in-None}
 
 pub loop-index-init : goal.loop-index-init
 loop-index-init c =
@@ -43,12 +43,12 @@ loop-index-preserved c =
       omega arith,
       reference_stays _ _ _ c.put_line.ensures ∙ l.invariant.1,
       elim c.match-place_for.branch [
-        | in-Some w ↦
+        | in-Some-place_for w ↦
             let missing = ap (worked_on a.node _ d.key act) (turned _ _ w.is_none.ensures) in
             rw (add-one l.index, w.calls-is, w.keys-is)
             (step_in a.node a.columns a.input.now (begin a.table a.start) a.out.now l.index l.calls l.keys l.count l.line.at l.line.buffer.now l.invariant.2
-            d read _ _ act c.in-Some.is c.find-found.result c.find-found.ensures.at w.worked-outcome.result w.in-Some.place
-            (sym w.in-Some.ensures.at) (w.worked-outcome.ensures ∙ missing) (rw w.outcome-is at put))
+            d read _ _ act c.in-Some.is c.find-found.result c.find-found.ensures.at w.worked-outcome.result w.in-Some-place_for.place
+            (sym w.in-Some-place_for.ensures.at) (w.worked-outcome.ensures ∙ missing) (rw w.outcome-is at put))
         | in-None w ↦
             rw (add-one l.index, w.calls-is, w.keys-is)
             (step_out a.node a.columns a.input.now (begin a.table a.start) a.out.now l.index l.calls l.keys l.count l.line.at l.line.buffer.now l.invariant.2
