@@ -200,6 +200,7 @@ fn refused(n: usize, answer: Answer) -> Ran
 fn placed(i: usize, o: Outcome) -> Ran
     ensures { result ≡ placed_at i o }
 {
+    // an array that is a field goes into a literal by way of a variable: straight, no proof of it is made
     let signals = o.signals;
     Ran {
         done: Done {
