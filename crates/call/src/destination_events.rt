@@ -12,75 +12,63 @@ impl Call {
     pub fn destination_trigger(self) -> Outcome
         ensures { result ≡ handled_at destination_half self Trigger }
     {
-        let soft = self.soft;
-        let state = self.state;
-        self.carried(0, destination_requests::trigger_row(soft, state))
+        self.carried(0, destination_requests::trigger_row(self.soft, self.state))
     }
 
     pub fn destination_path_found(self) -> Outcome
         ensures { result ≡ handled_at destination_half self PathFound }
     {
-        let state = self.state;
         self.carried(
             0,
-            destination_requests::path_row(signal::fresh_after(self.last), state),
+            destination_requests::path_row(signal::fresh_after(self.last), self.state),
         )
     }
 
     pub fn destination_no_path(self) -> Outcome
         ensures { result ≡ handled_at destination_half self NoPath }
     {
-        let state = self.state;
-        self.carried(0, destination_requests::no_path_row(state))
+        self.carried(0, destination_requests::no_path_row(self.state))
     }
 
     // `agreed` is local policy's yes.
     pub fn destination_connect(self, connection: u16, agreed: bool) -> Outcome
         ensures { result ≡ handled_at destination_half self (Connect connection agreed) }
     {
-        let state = self.state;
         self.carried(
             0,
-            destination_requests::connect_row(connection, agreed, state),
+            destination_requests::connect_row(connection, agreed, self.state),
         )
     }
 
     pub fn destination_setup(self, code: Switchover, number: u32) -> Outcome
         ensures { result ≡ handled_at destination_half self (Setup code number) }
     {
-        let hard = self.hard;
-        let soft = self.soft;
-        let state = self.state;
-        let remote = self.remote;
         let next = signal::fresh_after(self.last);
         self.carried(
             number,
-            destination_setups::setup_row(hard, soft, code, number, remote, next, state),
+            destination_setups::setup_row(self.hard, self.soft, code, number, self.remote, next, self.state),
         )
     }
 
     pub fn destination_ready(self) -> Outcome
         ensures { result ≡ handled_at destination_half self Ready }
     {
-        let state = self.state;
-        self.carried(0, destination_setups::ready_row(state))
+        self.carried(0, destination_setups::ready_row(self.state))
     }
 
     pub fn destination_expiry(self) -> Outcome
         ensures { result ≡ handled_at destination_half self Expiry }
     {
-        let state = self.state;
-        self.carried(0, shared_rows::expiry_row(Node::Destination, state))
+        self.carried(0, shared_rows::expiry_row(Node::Destination, self.state))
     }
 
     // In Soft Triggered no Rerouting cause goes on (6.3.4.7, 6.3.4.1).
     pub fn destination_called_release(self, cause: Option<ReroutingCause>) -> Outcome
         ensures { result ≡ handled_at destination_half self (FromParty cause) }
     {
-        let state = self.state;
         self.carried(
             0,
-            shared_rows::party_row(self.hard, cause, SentCause::Absent, state),
+            shared_rows::party_row(self.hard, cause, SentCause::Absent, self.state),
         )
     }
 
@@ -92,11 +80,10 @@ impl Call {
     ) -> Outcome
         ensures { result ≡ handled_at destination_half self (FromDomain connection cause crankback) }
     {
-        let state = self.state;
         let next = signal::fresh_after(self.last);
         self.carried(
             0,
-            destination_releases::calling_row(self.hard, connection, cause, crankback, next, state),
+            destination_releases::calling_row(self.hard, connection, cause, crankback, next, self.state),
         )
     }
 

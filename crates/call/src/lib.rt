@@ -48,14 +48,11 @@ impl Call {
     fn moved(self, state: State, last: u16, remote: u32) -> Call
         ensures { result ≡ moved_to self state last remote }
     {
-        let soft = self.soft;
         Call {
-            key: self.key,
-            hard: self.hard,
-            soft: soft,
-            state: state,
-            last: last,
-            remote: remote,
+            state,
+            last,
+            remote,
+            ..self
         }
     }
 
@@ -75,21 +72,15 @@ impl Call {
     fn carried(self, number: u32, effect: Effect) -> Outcome
         ensures { result ≡ carried_out self number effect }
     {
-        let answer = effect.answer;
-        let state = effect.state;
         let signals = effect.signals;
-        if matches!(answer, Answer::Done) {
-            let call = self.after(number, state, effect.gives, effect.stores);
-            return Outcome {
-                answer: answer,
-                call: call,
-                signals: signals,
-            };
-        }
+        let call = match effect.answer {
+            Answer::Done => self.after(number, effect.state, effect.gives, effect.stores),
+            _ => self,
+        };
         Outcome {
-            answer: answer,
-            call: self,
-            signals: signals,
+            answer: effect.answer,
+            call,
+            signals,
         }
     }
 
@@ -98,18 +89,17 @@ impl Call {
         ensures { result ≡ opened_for key wanted }
     {
         let services = Services::wanted(wanted);
-        let soft = services.soft;
         Outcome {
             answer: Answer::Done,
             call: Call {
-                key: key,
+                key,
                 hard: services.hard,
-                soft: soft,
+                soft: services.soft,
                 state: State::Idle(1),
                 last: 1,
                 remote: 0,
             },
-            signals: [Signal::NONE, Signal::NONE, Signal::NONE, Signal::NONE],
+            signals: [Signal::NONE; 4],
         }
     }
 

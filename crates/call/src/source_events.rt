@@ -12,67 +12,57 @@ impl Call {
     pub fn trigger(self) -> Outcome
         ensures { result ≡ handled_at source_half self Trigger }
     {
-        let soft = self.soft;
-        let state = self.state;
-        self.carried(0, source_requests::trigger_row(soft, state))
+        self.carried(0, source_requests::trigger_row(self.soft, self.state))
     }
 
     pub fn path_found(self) -> Outcome
         ensures { result ≡ handled_at source_half self PathFound }
     {
-        let state = self.state;
         self.carried(
             0,
-            source_requests::path_row(signal::fresh_after(self.last), state),
+            source_requests::path_row(signal::fresh_after(self.last), self.state),
         )
     }
 
     pub fn no_path(self) -> Outcome
         ensures { result ≡ handled_at source_half self NoPath }
     {
-        let state = self.state;
-        self.carried(0, source_requests::no_path_row(state))
+        self.carried(0, source_requests::no_path_row(self.state))
     }
 
     // `agreed` is local policy's yes.
     pub fn connect(self, connection: u16, agreed: bool) -> Outcome
         ensures { result ≡ handled_at source_half self (Connect connection agreed) }
     {
-        let state = self.state;
-        self.carried(0, source_connects::connect_row(connection, agreed, state))
+        self.carried(0, source_connects::connect_row(connection, agreed, self.state))
     }
 
     pub fn setup(self, code: Switchover, number: u32) -> Outcome
         ensures { result ≡ handled_at source_half self (Setup code number) }
     {
-        let soft = self.soft;
-        let state = self.state;
         let next = signal::fresh_after(self.last);
         self.carried(
             number,
-            source_setups::setup_row(soft, code, number, self.remote, next, state),
+            source_setups::setup_row(self.soft, code, number, self.remote, next, self.state),
         )
     }
 
     pub fn ready(self) -> Outcome
         ensures { result ≡ handled_at source_half self Ready }
     {
-        let state = self.state;
-        self.carried(0, source_setups::ready_row(state))
+        self.carried(0, source_setups::ready_row(self.state))
     }
 
     pub fn expiry(self) -> Outcome
         ensures { result ≡ handled_at source_half self Expiry }
     {
-        let state = self.state;
-        self.carried(0, shared_rows::expiry_row(Node::Source, state))
+        self.carried(0, shared_rows::expiry_row(Node::Source, self.state))
     }
 
     pub fn calling_release(self, cause: Option<ReroutingCause>) -> Outcome
         ensures { result ≡ handled_at source_half self (FromParty cause) }
     {
-        let state = self.state;
-        self.carried(0, source_endings::calling_row(self.hard, cause, state))
+        self.carried(0, source_endings::calling_row(self.hard, cause, self.state))
     }
 
     pub fn called_release(
@@ -83,11 +73,10 @@ impl Call {
     ) -> Outcome
         ensures { result ≡ handled_at source_half self (FromDomain connection cause crankback) }
     {
-        let state = self.state;
         let next = signal::fresh_after(self.last);
         self.carried(
             0,
-            source_releases::called_row(self.hard, connection, cause, crankback, next, state),
+            source_releases::called_row(self.hard, connection, cause, crankback, next, self.state),
         )
     }
 

@@ -29,20 +29,18 @@ fn by_cause(cause: SentCause) -> Names
 pub fn named(signal: Signal) -> Names
     ensures { result ≡ named_by signal }
 {
-    let kind = signal.kind;
-    let cause = signal.cause;
-    match kind {
-        Kind::NoSignal => Names::Neither,
-        Kind::TimerStart => Names::Neither,
-        Kind::TimerStop => Names::Neither,
-        Kind::Switch => Names::Neither,
-        Kind::CallingRelease => by_cause(cause),
-        Kind::IncumbentRelease => by_cause(cause),
-        Kind::ReroutingRelease => by_cause(cause),
-        Kind::SetupRequest => Names::Neither,
-        Kind::ConnectRequest => Names::Neither,
+    match signal.kind {
+        Kind::NoSignal
+        | Kind::TimerStart
+        | Kind::TimerStop
+        | Kind::Switch
+        | Kind::SetupRequest
+        | Kind::ConnectRequest => Names::Neither,
         Kind::Rejection => Names::Neither,
-        Kind::CalledRelease => by_cause(cause),
+        Kind::CallingRelease
+        | Kind::IncumbentRelease
+        | Kind::ReroutingRelease
+        | Kind::CalledRelease => by_cause(signal.cause),
     }
 }
 

@@ -210,8 +210,7 @@ fn open_values(wanted: Option<Services>) -> Values
     match wanted {
         None => brought(0, 0, 0, 0, 0),
         Some(services) => {
-            let soft = services.soft;
-            brought(0, 1, flag_number(services.hard), soft.number(), 0)
+            brought(0, 1, flag_number(services.hard), services.soft.number(), 0)
         }
     }
 }

@@ -127,11 +127,11 @@ impl Effect {
         ensures { result ≡ refused_in answer state }
     {
         Effect {
-            answer: answer,
-            state: state,
+            answer,
+            state,
             gives: false,
             stores: false,
-            signals: [Signal::NONE, Signal::NONE, Signal::NONE, Signal::NONE],
+            signals: [Signal::NONE; 4],
         }
     }
 
@@ -141,7 +141,7 @@ impl Effect {
     {
         Effect {
             answer: Answer::Done,
-            state: state,
+            state,
             gives: false,
             stores: false,
             signals: [first, second, third, Signal::NONE],
@@ -184,9 +184,9 @@ impl Effect {
     {
         Effect {
             answer: Answer::Done,
-            state: state,
+            state,
             gives: true,
-            stores: stores,
+            stores,
             signals: [first, second, third, Signal::NONE],
         }
     }

@@ -190,8 +190,8 @@ impl Signal {
         ensures { result ≡ naming kind connection }
     {
         Signal {
-            kind: kind,
-            connection: connection,
+            kind,
+            connection,
             cause: SentCause::Absent,
             code: CauseCode::Section66,
         }
@@ -202,10 +202,10 @@ impl Signal {
         ensures { result ≡ release_with kind connection cause code }
     {
         Signal {
-            kind: kind,
-            connection: connection,
-            cause: cause,
-            code: code,
+            kind,
+            connection,
+            cause,
+            code,
         }
     }
 

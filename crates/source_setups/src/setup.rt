@@ -45,7 +45,7 @@ fn in_progress(state: State) -> Effect
 {
     Effect {
         answer: Answer::Done,
-        state: state,
+        state,
         gives: false,
         stores: true,
         signals: [
