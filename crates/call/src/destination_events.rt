@@ -46,7 +46,15 @@ impl Call {
         let next = signal::fresh_after(self.last);
         self.carried(
             number,
-            destination_setups::setup_row(self.hard, self.soft, code, number, self.remote, next, self.state),
+            destination_setups::setup_row(
+                self.hard,
+                self.soft,
+                code,
+                number,
+                self.remote,
+                next,
+                self.state,
+            ),
         )
     }
 
@@ -83,7 +91,9 @@ impl Call {
         let next = signal::fresh_after(self.last);
         self.carried(
             0,
-            destination_releases::calling_row(self.hard, connection, cause, crankback, next, self.state),
+            destination_releases::calling_row(
+                self.hard, connection, cause, crankback, next, self.state,
+            ),
         )
     }
 

@@ -34,7 +34,10 @@ impl Call {
     pub fn connect(self, connection: u16, agreed: bool) -> Outcome
         ensures { result ≡ handled_at source_half self (Connect connection agreed) }
     {
-        self.carried(0, source_connects::connect_row(connection, agreed, self.state))
+        self.carried(
+            0,
+            source_connects::connect_row(connection, agreed, self.state),
+        )
     }
 
     pub fn setup(self, code: Switchover, number: u32) -> Outcome

@@ -26,10 +26,7 @@ const SOURCE: [(u64, Event); 16] = [
     (6, Event::Setup(Switchover::CLEARING, 5)),
     (7, Event::Ready),
     (8, Event::FromDomain(1, COMPLETE, Crankback::NoCrankback)),
-    (
-        9,
-        Event::FromDomain(1, None, Crankback::NoCrankback),
-    ),
+    (9, Event::FromDomain(1, None, Crankback::NoCrankback)),
     // B10 to B13: the node reroutes softly.
     (10, Event::Trigger),
     (11, Event::PathFound),
@@ -38,10 +35,7 @@ const SOURCE: [(u64, Event); 16] = [
     // B15 and B16: the incumbent is lost under a soft rerouting, and the timer ends the call.
     (15, Event::Trigger),
     (15, Event::PathFound),
-    (
-        15,
-        Event::FromDomain(4, None, Crankback::NoCrankback),
-    ),
+    (15, Event::FromDomain(4, None, Crankback::NoCrankback)),
     (16, Event::Expiry),
 ];
 
@@ -60,20 +54,14 @@ const DESTINATION: [(u64, Event); 18] = [
     (10, Event::Setup(Switchover::CLEARING, 8)),
     (11, Event::Ready),
     (12, Event::FromDomain(3, COMPLETE, Crankback::NoCrankback)),
-    (
-        13,
-        Event::FromDomain(3, None, Crankback::NoCrankback),
-    ),
+    (13, Event::FromDomain(3, None, Crankback::NoCrankback)),
     // Steps 14 to 17: this side moves it once.
     (14, Event::Trigger),
     (15, Event::Trigger),
     (16, Event::PathFound),
     (17, Event::Connect(6, true)),
     // Steps 19 and 20: the incumbent fails, and no setup comes in time.
-    (
-        19,
-        Event::FromDomain(6, None, Crankback::NoCrankback),
-    ),
+    (19, Event::FromDomain(6, None, Crankback::NoCrankback)),
     (20, Event::Expiry),
 ];
 
@@ -88,7 +76,10 @@ impl Console {
     // The opening, and then each step on the call that the one before it leaves.
     fn print_steps(self, steps: &[(u64, Event)]) -> Result<(), Failure> {
         let mut out = [0u8; 256];
-        let mut line = Line { buffer: &mut out, at: 0 };
+        let mut line = Line {
+            buffer: &mut out,
+            at: 0,
+        };
         put_label(&mut line, self.node, 1);
         event_words::put_event(&mut line, self.node, 7, Act::Opens(OPENED));
         let mut call = self.finish(&mut line, Call::opened(7, OPENED))?;

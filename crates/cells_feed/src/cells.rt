@@ -110,7 +110,10 @@ impl Console {
 
     fn print_cell(self, call: Call, event: Event) -> Result<(), Failure> {
         let mut out = [0u8; 256];
-        let mut line = Line { buffer: &mut out, at: 0 };
+        let mut line = Line {
+            buffer: &mut out,
+            at: 0,
+        };
         call_words::put_call(&mut line, call);
         put_bar(&mut line);
         event_words::put_keyless(&mut line, self.node, event);
@@ -132,7 +135,10 @@ impl Console {
 
     fn print_opening(self, key: u32, wanted: Option<Services>) -> Result<(), Failure> {
         let mut out = [0u8; 256];
-        let mut line = Line { buffer: &mut out, at: 0 };
+        let mut line = Line {
+            buffer: &mut out,
+            at: 0,
+        };
         event_words::put_event(&mut line, self.node, key, Act::Opens(wanted));
         put_outcome(&mut line, Call::opened(key, wanted));
         self.write_line(&mut line)

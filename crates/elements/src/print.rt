@@ -10,7 +10,10 @@ const DIGITS: [u8; 16] = *b"0123456789abcdef";
 // The string that the part is of, its length, and its octets.
 pub(crate) fn part(mut stdout: Stdout, string: Names, octets: &[u8]) -> Result<(), Failure> {
     let mut out: [u8; 4096] = streams::zeros();
-    let mut line = Line { buffer: &mut out, at: 0 };
+    let mut line = Line {
+        buffer: &mut out,
+        at: 0,
+    };
     put_name(&mut line, string);
     line.put_number(octets.len() as u64);
     line.put_byte(b' ');

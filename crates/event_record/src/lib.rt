@@ -209,9 +209,7 @@ fn open_values(wanted: Option<Services>) -> Values
 {
     match wanted {
         None => brought(0, 0, 0, 0, 0),
-        Some(services) => {
-            brought(0, 1, flag_number(services.hard), services.soft.number(), 0)
-        }
+        Some(services) => { brought(0, 1, flag_number(services.hard), services.soft.number(), 0) }
     }
 }
 

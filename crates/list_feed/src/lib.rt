@@ -59,7 +59,10 @@ impl Console {
     // The records that are whole among the octets: how many are listed with them. No run counts so far that the last number is met twice.
     fn list_whole(mut self, octets: &[u8], output: &mut [u8], listed: u64) -> Result<u64, Stop> {
         let mut count = listed;
-        let mut line = Line { buffer: output, at: 0 };
+        let mut line = Line {
+            buffer: output,
+            at: 0,
+        };
         for index in 0..octets.len() / 16 {
             let record = event_record::record_at(octets, index * 16);
             let decoded = event_record::decode(self.node, record);
@@ -83,7 +86,10 @@ impl Console {
     fn refuse(self, count: u64, record: [u8; 16]) {
         let fault = event_fault::find(self.node, record);
         let mut out: [u8; 4096] = streams::zeros();
-        let mut line = Line { buffer: &mut out, at: 0 };
+        let mut line = Line {
+            buffer: &mut out,
+            at: 0,
+        };
         print::put_bad(&mut line, self.node, count, fault);
         self.tell(line);
     }
@@ -93,7 +99,10 @@ impl Console {
         if kept != 0 {
             let count = listed.saturating_add(1);
             let mut out: [u8; 4096] = streams::zeros();
-            let mut line = Line { buffer: &mut out, at: 0 };
+            let mut line = Line {
+                buffer: &mut out,
+                at: 0,
+            };
             print::put_short(&mut line, self.node, count, kept as u64);
             self.tell(line);
         }
@@ -101,7 +110,10 @@ impl Console {
 
     fn complain(self, failure: Failure) {
         let mut out: [u8; 4096] = streams::zeros();
-        let mut line = Line { buffer: &mut out, at: 0 };
+        let mut line = Line {
+            buffer: &mut out,
+            at: 0,
+        };
         print::put_failure(&mut line, self.node, failure);
         self.tell(line);
     }

@@ -140,7 +140,10 @@ impl Script {
     fn tell(&mut self, stop: Stop) {
         let node = self.console.node;
         let mut out: [u8; 4096] = streams::zeros();
-        let mut line = Line { buffer: &mut out, at: 0 };
+        let mut line = Line {
+            buffer: &mut out,
+            at: 0,
+        };
         match stop {
             Stop::Fails(failure) => print::put_failure(&mut line, node, failure),
             Stop::TooLong => print::put_too_long(&mut line, node, self.number),

@@ -200,7 +200,13 @@ fn calling(rest: &[u8], key: u32) -> Parsed
 
 // The crankback of a release, or nothing; `what` is told of any other word.
 #[tactic(auto, unfolding(crate::specs::Script::read_crankback))]
-fn crankback(rest: &[u8], key: u32, connection: u16, cause: Option<ReroutingCause>, what: What) -> Parsed
+fn crankback(
+    rest: &[u8],
+    key: u32,
+    connection: u16,
+    cause: Option<ReroutingCause>,
+    what: What,
+) -> Parsed
     ensures { result ≡ read_crankback key connection cause what rest.now }
 {
     if is(rest, b"") {
@@ -243,13 +249,7 @@ fn release(rest: &[u8], key: u32, connection: u16) -> Parsed
     if is(rest, b"cause") {
         return called_cause(behind(rest), key, connection);
     }
-    crankback(
-        rest,
-        key,
-        connection,
-        None,
-        What::CauseCrankbackOrEnd,
-    )
+    crankback(rest, key, connection, None, What::CauseCrankbackOrEnd)
 }
 
 #[tactic(auto, unfolding(crate::specs::Script::read_called))]

@@ -28,7 +28,9 @@ pub fn put_what(line: &mut Line, what: What)
     ensures { line.new ≡ with_text line.old (what_text what) }
 {
     match what {
-        What::AnEvent => line.put_word(b"open, trigger, path, nopath, connect, setup, calling, called, ready or expiry"),
+        What::AnEvent => line.put_word(
+            b"open, trigger, path, nopath, connect, setup, calling, called, ready or expiry",
+        ),
         What::AKey => line.put_word(b"a key, 0 to 4294967295"),
         What::HardOrEnd => line.put_word(b"hard, nohard or nothing more"),
         What::ASoftService => line.put_word(b"none, asymmetric or symmetric"),
@@ -38,7 +40,9 @@ pub fn put_what(line: &mut Line, what: What)
         What::AnIncarnation => line.put_word(b"an incarnation number, 0 to 4294967295"),
         What::CauseOrEnd => line.put_word(b"cause or nothing more"),
         What::ACause => line.put_word(b"a cause, 0 to 255"),
-        What::CauseCrankbackOrEnd => line.put_word(b"cause, alternate, noalternate or nothing more"),
+        What::CauseCrankbackOrEnd => line.put_word(
+            b"cause, alternate, noalternate or nothing more",
+        ),
         What::CrankbackOrEnd => line.put_word(b"alternate, noalternate or nothing more"),
         What::NothingMore => line.put_word(b"nothing more"),
     }

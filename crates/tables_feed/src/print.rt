@@ -16,7 +16,10 @@ pub(crate) fn table(
     done: Done,
 ) -> Result<(), Failure> {
     let mut out: [u8; 4096] = streams::zeros();
-    let mut line = Line { buffer: &mut out, at: 0 };
+    let mut line = Line {
+        buffer: &mut out,
+        at: 0,
+    };
     put_done(&mut line, number, records.len(), done);
     for call in records {
         call_words::put_call(&mut line, *call);

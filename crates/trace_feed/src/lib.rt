@@ -63,7 +63,10 @@ impl Console<'_> {
             }
             let filled = kept + came;
             let ran = trace_run::run(self.node, table, &input[..filled], out, self.columns, count);
-            let lines = Line { buffer: &mut *out, at: ran.at };
+            let lines = Line {
+                buffer: &mut *out,
+                at: ran.at,
+            };
             streams::write_line(&mut self.stdout, &lines)?;
             if !ran.good {
                 break;
@@ -86,7 +89,10 @@ impl Console<'_> {
     // A line on standard error. Where it cannot be written, nobody can be told.
     fn complain(mut self, failure: Failure) {
         let mut out = [0u8; 64];
-        let mut line = Line { buffer: &mut out, at: 0 };
+        let mut line = Line {
+            buffer: &mut out,
+            at: 0,
+        };
         line.put_word(self.name);
         line.put_word(&failure.told());
         let _ = streams::write_line(&mut self.stderr, &line);

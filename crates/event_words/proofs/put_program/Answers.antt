@@ -7,6 +7,6 @@ use Rattle.event_words.proofs.put_program.Goals as goal
 pub returns : goal.returns
 returns c =
     elim c.match-node.branch [
-      in-Destination w ↦ rw w.in-Destination.is (and_then _ _ _ _ _ (w.line-is ∙ w.put_word.ensures) c.put_word-2.ensures)
-    | in_default w ↦ rw (w.in_default.is, ← w.line-is) c.put_word-2.ensures
+      | in-Destination w ↦ rw w.in-Destination.is (and_then _ _ _ _ _ (w.line-is ∙ w.put_word.ensures) c.put_word-2.ensures)
+      | in_default w ↦ rw (w.in_default.is, ← w.line-is) c.put_word-2.ensures
     ]

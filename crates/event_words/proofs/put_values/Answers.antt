@@ -6,9 +6,9 @@ use Rattle.event_words.proofs.put_values.Goals as goal
 pub returns-in-Trigger : goal.returns-in-Trigger
 returns-in-Trigger c =
     elim c.in-Trigger.is [
-      inl e ↦ rw e (nothing_put _)
-    | inr (inl e) ↦ rw e (nothing_put _)
-    | inr (inr (inl e)) ↦ rw e (nothing_put _)
-    | inr (inr (inr (inl e))) ↦ rw e (nothing_put _)
-    | inr (inr (inr (inr e))) ↦ rw e (nothing_put _)
+      | inl e ↦ rw e (nothing_put _)
+      | inr (inl e) ↦ rw e (nothing_put _)
+      | inr (inr (inl e)) ↦ rw e (nothing_put _)
+      | inr (inr (inr (inl e))) ↦ rw e (nothing_put _)
+      | inr (inr (inr (inr e))) ↦ rw e (nothing_put _)
     ]

@@ -8,8 +8,8 @@ use Rattle.signal_words.proofs.put_next.Goals as goal
 pub returns-after-before : goal.returns-after-before
 returns-after-before c =
     rw (sym c.if-sent.ensures) (elim c.if-before.branch [
-    then-before w ↦ rw w.if-before.true (and_then _ _ _ _ _ (w.line-is ∙ w.put_word.ensures) c.put_signal.ensures)
-    | else-before w ↦ rw (w.if-before.false, ← w.line-is) c.put_signal.ensures
+      | then-before w ↦ rw w.if-before.true (and_then _ _ _ _ _ (w.line-is ∙ w.put_word.ensures) c.put_signal.ensures)
+      | else-before w ↦ rw (w.if-before.false, ← w.line-is) c.put_signal.ensures
     ])
 
 pub returns-else-sent : goal.returns-else-sent
