@@ -14,7 +14,7 @@ use Rattle.events.specs.declared.Act.{Act}
 use Rattle.event_fault.specs.Claims as claim
 use Rattle.event_fault.specs.Fault.{misses, fault_at}
 use Rattle.event_fault.specs.declared.Fault.{Fault}
-use Rattle.std.specs.Prelude.{Option, Some, None}
+use Rattle.std.specs.Prelude.{Option, None}
 use Rattle.event_fault.proofs.Exactly.{Alike, both_bad, both_sound, kind_alike}
 use Rattle.event_fault.proofs.First.{Names, Tells, below, kind_tells}
 

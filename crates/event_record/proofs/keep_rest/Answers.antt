@@ -1,6 +1,5 @@
 -- Where there are not so many octets nothing is kept; else what stands behind the last whole record comes to the front.
-use Rattle.std.proofs.Common.{arith, refl, ◌≡◌, ◌-◌, ◌%◌, ◌∙◌, ◌+◌, ◌++◌, take, drop, ap}
-use Rattle.event_record.specs.Places.{brought_from}
+use Rattle.std.proofs.Common.{arith, ◌≡◌, ◌-◌, ◌%◌, ◌∙◌, ◌+◌, ◌++◌, take, drop, ap}
 use Rattle.event_record.proofs.Buffer.{none_kept, rest_kept_lem}
 use Rattle.event_record.proofs.keep_rest.Goals as goal
 

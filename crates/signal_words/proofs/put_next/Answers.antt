@@ -1,6 +1,5 @@
 -- A comma and the signal, or nothing where none is sent.
-use Rattle.std.proofs.Common.{sym, ◌∙◌, ap}
-use Rattle.lines.specs.Line.{with_text}
+use Rattle.std.proofs.Common.{sym, ◌∙◌}
 use Rattle.lines.proofs.Lines.{and_then, nothing_put}
 use Rattle.signal_words.proofs.put_next.Goals.{then-before, else-before}
 use Rattle.signal_words.proofs.put_next.Goals as goal

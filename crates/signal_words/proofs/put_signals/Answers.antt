@@ -1,7 +1,7 @@
 -- One signal more at each turn; at the end some have been put, or a dash.
 use Rattle.std.proofs.Common.{arith, refl}
 use Rattle.lines.proofs.Lines.{nothing_put}
-use Rattle.signal_words.proofs.Listed.{turn, turned, some_sent, none_sent}
+use Rattle.signal_words.proofs.Listed.{turn, turned, none_sent}
 use Rattle.signal_words.proofs.put_signals.Goals as goal
 
 pub loop-signal-init : goal.loop-signal-init
