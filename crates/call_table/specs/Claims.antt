@@ -2,8 +2,8 @@
 -- decided, and `table_of` the row after it: the two that the contracts of `handle` and `handle64` fix. "01" is the scope document, a demand
 -- one of the three in README.md. Proofs: proofs/Fit.antt, Stored.antt, Claims.antt, Given.antt,
 -- Stopped.antt and Kept.antt. Assumes nothing.
-use Rattle.std.specs.Prelude.{◌<◌, ◌≤◌, ℕ, Bool, cond, false, not, true, List, [], ◌++◌, ◌∷◌, map, ◌↔◌, ◌⊎◌, ◌≡◌, eqb, get_or, length, set, Option}
-use Rattle.std.specs.Prelude.{None}
+use Rattle.std.specs.Prelude.{◌<◌, ◌≤◌, ℕ, Bool, cond, false, not, true, List, [], ◌++◌, ◌∷◌, map, ◌↔◌, ◌⊎◌, ◌≡◌, eqb, get_or, length, set}
+use Rattle.std.specs.Prelude.{Option, None}
 use Rattle.signal.specs.Numbers.{answer_number}
 use Rattle.signal.specs.Signals.{places}
 use Rattle.signal.specs.declared.Services.{Services}
@@ -201,7 +201,8 @@ KeysAloneAreRead = (ys zs : List Call) (key : ℕ) → map (λ c. c.key) ys ≡ 
 
 -- For an opening no record is fetched, whatever the search has found.
 abbrev pub OpeningFetchesNone : Type 0
-OpeningFetchesNone = (ys : List Call) (s : Sought ℕ) (wanted : Option Services) → fetched_from ys (needed_by (length ys) s (Opens wanted)) ≡ None
+OpeningFetchesNone =
+    (ys : List Call) (s : Sought ℕ) (wanted : Option Services) → fetched_from ys (needed_by (length ys) s (Opens wanted)) ≡ None
 
 -- all of them, of one half
 pub record TableClaims (half : Half) : Type 0 where

@@ -40,7 +40,8 @@ open_of named hard soft =
 
 -- connect: byte 1 is policy; a connection number above 65,535 is bad
 abbrev pub connect_of : ℕ → ℕ → Option Act
-connect_of policy connection = cond (ltb 1 policy) None (cond (ltb 65535 connection) None (Some (Meets (Connect connection (eqb policy 1)))))
+connect_of policy connection =
+    cond (ltb 1 policy) None (cond (ltb 65535 connection) None (Some (Meets (Connect connection (eqb policy 1)))))
 
 -- a release from the calling side: crankback is named of every release, and tested here too
 abbrev pub calling_of : ℕ → ℕ → ℕ → Option Act

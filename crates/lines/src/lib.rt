@@ -14,7 +14,7 @@ pub struct Line<'a> {
     pub at: usize,
 }
 
-impl<'a> Line<'a> {
+impl Line<'_> {
     pub fn put_byte(&mut self, byte: u8)
         ensures { self.new ≡ with_byte self.old byte }
     {
