@@ -5,6 +5,7 @@
 
 ghost use Rattle.std.specs.Prelude.{◌≡◌, length, replicate, take, IfOk};
 ghost use Rattle.std.specs.Io.KnownBytes.{Consumes};
+ghost use Rattle.streams.specs.declared.Stop.TheVariants.{Fails};
 ghost use Rattle.streams.specs.Streams.{told_of, IsFrontLen, ReadsSome, WritesAll, WritesLine};
 
 use lines::Line;
@@ -37,7 +38,9 @@ pub enum Stop {
 }
 
 impl From<Failure> for Stop {
-    fn from(failure: Failure) -> Stop {
+    fn from(failure: Failure) -> Stop
+        ensures { result ≡ Fails failure }
+    {
         Stop::Fails(failure)
     }
 }
