@@ -6,7 +6,7 @@
 
 ghost use Rattle.std.specs.Prelude.{◌≡◌};
 ghost use Rattle.lines.specs.Line.{with_text};
-ghost use Rattle.event_words.specs.Words.{then_number, hard_text, soft_text, wanted_text, policy_text, switchover_text};
+ghost use Rattle.event_words.specs.Words.{hard_text, soft_text, wanted_text, policy_text, switchover_text};
 ghost use Rattle.event_words.specs.Words.{received_cause_text, crankback_text, party_text, domain_text, event_name, name_text};
 ghost use Rattle.event_words.specs.Words.{values_text, keyless_text, brought_text, event_text, program_text};
 ghost use Rattle.events.specs.declared.Event.TheVariants.{Connect, Setup, FromDomain};
@@ -14,13 +14,6 @@ ghost use Rattle.events.specs.declared.Event.TheVariants.{Connect, Setup, FromDo
 use events::{Act, Event, Node};
 use lines::Line;
 use signal::{Crankback, ReroutingCause, Services, Soft, Switchover};
-
-// A number behind a blank.
-fn put_then(line: &mut Line, number: u64)
-    ensures { line.new ≡ with_text line.old (then_number number) }
-{
-    line.put_numbered(b" ", number);
-}
 
 fn put_hard(line: &mut Line, hard: bool)
     ensures { line.new ≡ with_text line.old (hard_text hard) }
@@ -70,7 +63,7 @@ fn put_switchover(line: &mut Line, code: u8)
     match code {
         0 => line.put_word(b" immediate"),
         1 => line.put_word(b" clearing"),
-        _ => put_then(line, code as u64),
+        _ => line.put_numbered(b" ", code as u64),
     }
 }
 
@@ -80,8 +73,7 @@ fn put_cause(line: &mut Line, cause: Option<ReroutingCause>)
     match cause {
         None => {}
         Some(given) => {
-            line.put_word(b" cause");
-            put_then(line, given.number as u64);
+            line.put_numbered(b" cause ", given.number as u64);
         }
     }
 }
@@ -144,7 +136,7 @@ fn put_name(line: &mut Line, node: Node, act: Act)
 fn put_connect(line: &mut Line, connection: u16, policy: bool)
     ensures { line.new ≡ with_text line.old (values_text (Connect connection policy)) }
 {
-    put_then(line, connection as u64);
+    line.put_numbered(b" ", connection as u64);
     put_policy(line, policy);
 }
 
@@ -152,13 +144,13 @@ fn put_setup(line: &mut Line, switchover: Switchover, number: u32)
     ensures { line.new ≡ with_text line.old (values_text (Setup switchover number)) }
 {
     put_switchover(line, switchover.code);
-    put_then(line, number as u64);
+    line.put_numbered(b" ", number as u64);
 }
 
 fn put_called(line: &mut Line, connection: u16, cause: Option<ReroutingCause>, back: Crankback)
     ensures { line.new ≡ with_text line.old (values_text (FromDomain connection cause back)) }
 {
-    put_then(line, connection as u64);
+    line.put_numbered(b" ", connection as u64);
     put_cause(line, cause);
     put_crankback(line, back);
 }
@@ -207,6 +199,6 @@ pub fn put_event(line: &mut Line, node: Node, key: u32, act: Act)
     ensures { line.new ≡ with_text line.old (event_text node key act) }
 {
     put_name(line, node, act);
-    put_then(line, key as u64);
+    line.put_numbered(b" ", key as u64);
     put_brought(line, act);
 }

@@ -6,4 +6,4 @@ pub returns : goal.returns
 returns c =
     and_then _ _ _ _ _ c.put_number.ensures
     (and_then _ _ _ _ _ c.put_services.ensures
-    (and_then _ _ _ _ _ c.put_connections.ensures (and_then _ _ _ _ _ c.put_further.ensures c.put_further-2.ensures)))
+    (and_then _ _ _ _ _ c.put_connections.ensures (and_then _ _ _ _ _ c.put_numbered.ensures c.put_numbered-2.ensures)))

@@ -5,4 +5,4 @@ use Rattle.call_words.proofs.put_connections.Goals as goal
 pub returns : goal.returns
 returns c =
     rw (← c.number.ensures, ← c.incumbent.ensures, ← c.rerouting.ensures)
-    (and_then _ _ _ _ _ c.put_further.ensures (and_then _ _ _ _ _ c.put_further-2.ensures c.put_further-3.ensures))
+    (and_then _ _ _ _ _ c.put_numbered.ensures (and_then _ _ _ _ _ c.put_numbered-2.ensures c.put_numbered-3.ensures))

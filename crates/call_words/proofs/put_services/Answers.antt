@@ -9,4 +9,4 @@ flag true = refl
 flag false = refl
 
 pub returns : goal.returns
-returns c = rw (← flag c.args.hard, ← c.number.ensures) (and_then _ _ _ _ _ c.put_further.ensures c.put_further-2.ensures)
+returns c = rw (← flag c.args.hard, ← c.number.ensures) (and_then _ _ _ _ _ c.put_numbered.ensures c.put_numbered-2.ensures)

@@ -3,4 +3,4 @@ use Rattle.lines.proofs.Lines.{and_then}
 use Rattle.event_words.proofs.put_called.Goals as goal
 
 pub returns : goal.returns
-returns c = and_then _ _ _ _ _ c.put_then.ensures (and_then _ _ _ _ _ c.put_cause.ensures c.put_crankback.ensures)
+returns c = and_then _ _ _ _ _ c.put_numbered.ensures (and_then _ _ _ _ _ c.put_cause.ensures c.put_crankback.ensures)
