@@ -6,7 +6,7 @@
 
 ghost use Rattle.std.specs.Prelude.{true, ◌+◌, ◌≤◌, ◌≡◌, ◌++◌, ◌∷◌, [], length};
 ghost use Rattle.io.specs.Digits.{last_digits, IsDigitCount};
-ghost use Rattle.lines.specs.Lines.{page, put_text, number_text};
+ghost use Rattle.lines.specs.Lines.{number_text};
 ghost use Rattle.lines.specs.Line.{with_text};
 ghost use Rattle.fields.specs.Fields.{spliced};
 
@@ -49,7 +49,7 @@ fn places(number: u32) -> usize
     10
 }
 
-// The last digits of a number, so many, from a place on; two at a time, the last two first.
+// The last digits of a number, so many, from a place on; two at a time, the last two first, which reads no plainer as a `for` with a step.
 fn spell(out: &mut [u8], at: usize, count: usize, number: u32)
     requires { at + count ≤ length out.old }
     ensures { out.new ≡ spliced out.old at (last_digits 10 count number) }
@@ -69,27 +69,28 @@ fn spell(out: &mut [u8], at: usize, count: usize, number: u32)
 }
 
 // A number of any length up to ten digits, where there is room.
-fn put_digits(out: &mut [u8], at: usize, number: u32, end: u8) -> usize
-    requires { at + 11 ≤ length out.old }
-    ensures { (page out.new result ≡ put_text (page out.old at) (number_text number ++ (end ∷ []))) × (result ≤ at + 11) }
+fn put_digits(line: &mut Line, number: u32, end: u8)
+    requires { line.old.at + 11 ≤ length line.old.buffer.now }
+    ensures { line.new ≡ with_text line.old (number_text number ++ (end ∷ [])) }
 {
     let count = places(number);
-    spell(out, at, count, number);
-    out[at + count] = end;
-    at + count + 1
+    spell(line.buffer, line.at, count, number);
+    line.buffer[line.at + count] = end;
+    line.at = line.at + count + 1;
 }
 
 // A number and the byte that ends it, where there is room. Most numbers have one digit.
-fn put_field_within(out: &mut [u8], at: usize, number: u32, end: u8) -> usize
-    requires { at + 11 ≤ length out.old }
-    ensures { (page out.new result ≡ put_text (page out.old at) (number_text number ++ (end ∷ []))) × (result ≤ at + 11) }
+fn put_field_within(line: &mut Line, number: u32, end: u8)
+    requires { line.old.at + 11 ≤ length line.old.buffer.now }
+    ensures { line.new ≡ with_text line.old (number_text number ++ (end ∷ [])) }
 {
     if number < 10 {
-        out[at] = 48 + number as u8;
-        out[at + 1] = end;
-        return at + 2;
+        line.buffer[line.at] = 48 + number as u8;
+        line.buffer[line.at + 1] = end;
+        line.at += 2;
+    } else {
+        put_digits(line, number, end);
     }
-    put_digits(out, at, number, end)
 }
 
 // Byte by byte, in any buffer.
@@ -114,7 +115,7 @@ pub fn put_field(line: &mut Line, number: u32, end: u8)
     ensures { line.new ≡ with_text line.old (number_text number ++ (end ∷ [])) }
 {
     if roomy(line) {
-        line.at = put_field_within(line.buffer, line.at, number, end);
+        put_field_within(line, number, end);
     } else {
         put_slowly(line, number as u64, end);
     }
@@ -125,7 +126,7 @@ pub fn put_count(line: &mut Line, count: u64, end: u8)
     ensures { line.new ≡ with_text line.old (number_text count ++ (end ∷ [])) }
 {
     if count < 4294967296 && roomy(line) {
-        line.at = put_digits(line.buffer, line.at, count as u32, end);
+        put_digits(line, count as u32, end);
     } else {
         put_slowly(line, count, end);
     }

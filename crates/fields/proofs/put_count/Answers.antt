@@ -1,6 +1,0 @@
--- Where there is room the line is turned to the page of the count. Assumes nothing.
-use Rattle.lines.proofs.Lines.{turned_by}
-use Rattle.fields.proofs.put_count.Goals as goal
-
-pub returns-then-roomy : goal.returns-then-roomy
-returns-then-roomy c = turned_by c.args.line.now _ _ _ c.put_digits-line.ensures.0
