@@ -15,7 +15,8 @@ ghost use Rattle.destination_releases.specs.Effects.{destination_calling, setup_
 
 use events::Node;
 use rows::{Class, Effect, State};
-use signal::{Answer, CauseCode, Crankback, Kind, ReroutingCause, SentCause, Signal};
+use shared_rows::{released, turned_away};
+use signal::{Answer, Crankback, Kind, ReroutingCause, SentCause, Signal};
 
 // What goes on towards the called side: #1 as received, any other cause as #2, none as none.
 fn forwarded(cause: Option<ReroutingCause>) -> SentCause
@@ -33,7 +34,7 @@ fn forwarded(cause: Option<ReroutingCause>) -> SentCause
 fn told_with(cause: Option<ReroutingCause>, kind: Kind, connection: u16) -> Effect
     ensures { result ≡ ended_telling Destination (said cause (forwarding (class_of cause))) (release_of kind connection Absent) }
 {
-    let other = Signal::release(kind, connection, SentCause::Absent, CauseCode::Section66);
+    let other = released(kind, connection, SentCause::Absent);
     Effect::told(Node::Destination, forwarded(cause), other)
 }
 
@@ -50,12 +51,7 @@ fn proceeding_lost(
     match rows::class_of(cause) {
         Class::CameNone => {
             if hard {
-                let away = Signal::release(
-                    Kind::ReroutingRelease,
-                    r,
-                    SentCause::Absent,
-                    CauseCode::CallRejected,
-                );
+                let away = turned_away(Kind::ReroutingRelease, r);
                 return Effect::done(State::HardWaiting, Signal::TIMER_START, away, Signal::NONE);
             }
             told_with(cause, Kind::ReroutingRelease, r)

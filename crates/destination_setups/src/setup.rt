@@ -13,14 +13,8 @@ ghost use Rattle.destination_rows.specs.Rows.{at_destination, hard_setup_in, sof
 ghost use Rattle.destination_setups.specs.Effects.{incumbent_left, both_left, setup_spent, setup_checked, setup_met, destination_setup};
 
 use rows::{Effect, State};
-use signal::{Answer, CauseCode, Kind, ReroutingCause, SentCause, Signal, Soft, Switchover};
-
-// A connection that gives way to the setup is released with Cause code #21.
-fn turned_away(kind: Kind, connection: u16) -> Signal
-    ensures { result ≡ release_with kind connection Absent CallRejected }
-{
-    Signal::release(kind, connection, SentCause::Absent, CauseCode::CallRejected)
-}
+use shared_rows::{released, turned_away};
+use signal::{Answer, Kind, ReroutingCause, SentCause, Signal, Soft, Switchover};
 
 // Hard Initiated on the new connection.
 fn hard_given(n: u16, first: Signal, second: Signal, third: Signal) -> Effect
@@ -33,12 +27,7 @@ fn hard_given(n: u16, first: Signal, second: Signal, third: Signal) -> Effect
 fn incumbent_left(i: u16, n: u16) -> Effect
     ensures { result ≡ incumbent_left i n }
 {
-    let left = Signal::release(
-        Kind::IncumbentRelease,
-        i,
-        SentCause::Absent,
-        CauseCode::Section66,
-    );
+    let left = released(Kind::IncumbentRelease, i, SentCause::Absent);
     hard_given(n, Signal::TIMER_START, left, Signal::NONE)
 }
 

@@ -9,6 +9,8 @@ use Rattle.shared_rows.specs.contracts.soft_crankback as soft_crankback
 use Rattle.shared_rows.specs.contracts.idle_lost as idle_lost
 use Rattle.shared_rows.specs.contracts.party_row as party_row
 use Rattle.shared_rows.specs.contracts.expiry_row as expiry_row
+use Rattle.shared_rows.specs.contracts.released as released
+use Rattle.shared_rows.specs.contracts.turned_away as turned_away
 
 pub trigger-in-has_one_answer : {M : Type 1} → OneAnswer M trigger-in.ended (λ 𝓤 𝓛. trigger-in.clauses 𝓛) (λ 𝓤 𝓛. trigger-in.spec 𝓛)
 trigger-in-has_one_answer 𝓤 𝓛 _ _ = (refl, λ _ _ _ _ _ _ _ _. facts 𝓤 result)
@@ -31,3 +33,9 @@ party_row-has_one_answer 𝓤 𝓛 _ _ = (refl, λ _ _ _ _ _ _ _ _. facts 𝓤 r
 
 pub expiry_row-has_one_answer : {M : Type 1} → OneAnswer M expiry_row.ended (λ 𝓤 𝓛. expiry_row.clauses 𝓛) (λ 𝓤 𝓛. expiry_row.spec 𝓛)
 expiry_row-has_one_answer 𝓤 𝓛 _ _ = (refl, λ _ _ _ _ _ _ _ _. facts 𝓤 result)
+
+pub released-has_one_answer : {M : Type 1} → OneAnswer M released.ended (λ 𝓤 𝓛. released.clauses 𝓛) (λ 𝓤 𝓛. released.spec 𝓛)
+released-has_one_answer 𝓤 𝓛 _ _ = (refl, λ _ _ _ _ _ _ _ _. facts 𝓤 result)
+
+pub turned_away-has_one_answer : {M : Type 1} → OneAnswer M turned_away.ended (λ 𝓤 𝓛. turned_away.clauses 𝓛) (λ 𝓤 𝓛. turned_away.spec 𝓛)
+turned_away-has_one_answer 𝓤 𝓛 _ _ = (refl, λ _ _ _ _ _ _ _ _. facts 𝓤 result)

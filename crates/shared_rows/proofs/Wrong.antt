@@ -17,6 +17,9 @@ use Rattle.signal.specs.Causes.{cause}
 use Rattle.signal.specs.Counting.{is_call_rejected, kind_number}
 use Rattle.signal.specs.Numbers.{answer_number}
 use Rattle.signal.specs.Signals.{none}
+use Rattle.signal.specs.declared.Kind.{Kind}
+use Rattle.signal.specs.declared.Kind.TheVariants.{IncumbentRelease, ReroutingRelease}
+use Rattle.signal.specs.declared.Signal.{Signal}
 use Rattle.signal.specs.declared.Crankback.TheVariants.{AlternateFound, NoAlternate}
 use Rattle.signal.specs.declared.Crankback.{Crankback}
 use Rattle.signal.specs.declared.ReroutingCause.{ReroutingCause}
@@ -35,6 +38,8 @@ use Rattle.shared_rows.specs.contracts.started.soft_crankback as soft_crankback
 use Rattle.shared_rows.specs.contracts.ended.idle_lost as idle_lost
 use Rattle.shared_rows.specs.contracts.ended.party_row as party_row
 use Rattle.shared_rows.specs.contracts.ended.expiry_row as expiry_row
+use Rattle.shared_rows.specs.contracts.releases.released as released
+use Rattle.shared_rows.specs.contracts.releases.turned_away as turned_away
 
 module _ {M : Type 1} {𝓤 : Ura M} (𝓛 : Logic 𝓤) (memory : Memory → SProp 𝓤) (run : Routine → Fun 𝓤) where
   -- it is false: the logic proves falsity from it
@@ -193,4 +198,40 @@ module _ {M : Type 1} {𝓤 : Ura M} (𝓛 : Logic 𝓤) (memory : Memory → SP
   expiry_releases_the_calling_side_at_either_end r w =
       fact_mono 𝓤 _ _ (λ h.
       let z : ◌≡◌ {A = ℕ} _ 4 = sym (ap (λ (r : Effect). kind_number (get_or r.signals 0 none).kind) h) ∙ w in
+      omega arith)
+
+  -- released: of what is released, its connection and the Rerouting cause, the signal
+  abbrev released_shuts_out : Kind → ℕ → SentCause → Signal → Type 1
+  released_shuts_out kind connection cause r =
+      NeverHolds ((released.clauses 𝓛 memory run tt (kind, (connection, (cause, tt)))).ensures tt r (kind, (connection, (cause, tt))))
+
+  -- a release names its connection
+  pub released_names_no_connection : (r : Signal) → r.connection ≡ 0 → released_shuts_out IncumbentRelease 3 Absent r
+  released_names_no_connection r w =
+      fact_mono 𝓤 _ _ (λ h. let z : ◌≡◌ {A = ℕ} 3 0 = sym (ap (λ (r : Signal). r.connection) h) ∙ w in omega arith)
+
+  -- Cause code #21 is for a connection that gives way (01, "Signals")
+  pub released_with_code_21 : (r : Signal) → is_call_rejected r.code ≡ true → released_shuts_out IncumbentRelease 3 Absent r
+  released_with_code_21 r w =
+      fact_mono 𝓤 _ _ (λ h.
+      let y : ◌≡◌ {A = Bool} false true = sym (ap (λ (r : Signal). is_call_rejected r.code) h) ∙ w in
+      let z : ◌≡◌ {A = ℕ} 0 1 = cc in
+      omega arith)
+
+  -- turned_away: of what is released and its connection, the signal
+  abbrev turned_away_shuts_out : Kind → ℕ → Signal → Type 1
+  turned_away_shuts_out kind connection r =
+      NeverHolds ((turned_away.clauses 𝓛 memory run tt (kind, (connection, tt))).ensures tt r (kind, (connection, tt)))
+
+  -- it names its connection
+  pub turned_away_names_no_connection : (r : Signal) → r.connection ≡ 0 → turned_away_shuts_out ReroutingRelease 5 r
+  turned_away_names_no_connection r w =
+      fact_mono 𝓤 _ _ (λ h. let z : ◌≡◌ {A = ℕ} 5 0 = sym (ap (λ (r : Signal). r.connection) h) ∙ w in omega arith)
+
+  -- and has Cause code #21 (01, "Signals")
+  pub turned_away_without_code_21 : (r : Signal) → is_call_rejected r.code ≡ false → turned_away_shuts_out ReroutingRelease 5 r
+  turned_away_without_code_21 r w =
+      fact_mono 𝓤 _ _ (λ h.
+      let y : ◌≡◌ {A = Bool} true false = sym (ap (λ (r : Signal). is_call_rejected r.code) h) ∙ w in
+      let z : ◌≡◌ {A = ℕ} 0 1 = cc in
       omega arith)

@@ -4,15 +4,10 @@ ghost use Rattle.std.specs.Prelude.{◌≡◌};
 ghost use Rattle.signal.specs.Signals.{release_of};
 ghost use Rattle.shared_rows.specs.Effects.{incumbent_ended, both_ended_with, party_ended, expiry_effect, idle_lost_effect};
 
+use crate::releases::released;
 use events::Node;
 use rows::{Class, Effect, State};
-use signal::{Answer, CauseCode, Kind, ReroutingCause, SentCause, Signal};
-
-fn released(kind: Kind, connection: u16, cause: SentCause) -> Signal
-    ensures { result ≡ release_of kind connection cause }
-{
-    Signal::release(kind, connection, cause, CauseCode::Section66)
-}
+use signal::{Answer, Kind, ReroutingCause, SentCause, Signal};
 
 fn incumbent_ended(incumbent: u16, cause: SentCause) -> Effect
     ensures { result ≡ incumbent_ended incumbent cause }

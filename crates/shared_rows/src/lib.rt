@@ -3,7 +3,9 @@
 #![tactic(auto)]
 
 mod ended;
+mod releases;
 mod started;
 
 pub use ended::{expiry_row, idle_lost, party_row};
+pub use releases::{released, turned_away};
 pub use started::{soft_connect, soft_crankback, soft_path, trigger_in};

@@ -3,9 +3,10 @@
 ghost use Rattle.std.specs.Prelude.{◌≡◌};
 ghost use Rattle.shared_rows.specs.Effects.{trigger_in_effect, soft_path_effect, soft_connect_effect, soft_crankback_effect};
 
+use crate::releases::{released, turned_away};
 use events::Node;
 use rows::{Effect, State};
-use signal::{Answer, CauseCode, Crankback, Kind, ReroutingCause, SentCause, Signal};
+use signal::{Answer, Crankback, Kind, ReroutingCause, SentCause, Signal};
 
 pub fn trigger_in(node: Node, state: State) -> Effect
     ensures { result ≡ trigger_in_effect node state }
@@ -51,20 +52,10 @@ pub fn soft_connect(
         if agreed {
             let switch = Signal::naming(Kind::Switch, rerouting);
             let cause = SentCause::Numbered(ReroutingCause::COMPLETE);
-            let other = Signal::release(
-                Kind::IncumbentRelease,
-                incumbent,
-                cause,
-                CauseCode::Section66,
-            );
+            let other = released(Kind::IncumbentRelease, incumbent, cause);
             return Effect::done(State::Idle(rerouting), switch, other, Signal::NONE);
         }
-        let away = Signal::release(
-            Kind::ReroutingRelease,
-            rerouting,
-            SentCause::Absent,
-            CauseCode::CallRejected,
-        );
+        let away = turned_away(Kind::ReroutingRelease, rerouting);
         return Effect::done(State::Idle(incumbent), away, Signal::NONE, Signal::NONE);
     }
     Effect::refused(Answer::NotHeld, State::SoftProceeding(incumbent, rerouting))

@@ -13,18 +13,14 @@ ghost use Rattle.source_releases.specs.Effects.{told_both};
 
 use events::Node;
 use rows::{Class, Effect, State};
-use signal::{Answer, CauseCode, Crankback, Kind, ReroutingCause, SentCause, Signal};
+use shared_rows::{released, turned_away};
+use signal::{Answer, Crankback, Kind, ReroutingCause, SentCause, Signal};
 
 // The calling side and the rerouting connection are released with one cause.
 fn told_both(rerouting: u16, cause: SentCause) -> Effect
     ensures { result ≡ told_both rerouting cause }
 {
-    let other = Signal::release(
-        Kind::ReroutingRelease,
-        rerouting,
-        cause,
-        CauseCode::Section66,
-    );
+    let other = released(Kind::ReroutingRelease, rerouting, cause);
     Effect::told(Node::Source, cause, other)
 }
 
@@ -133,12 +129,7 @@ fn initiated_lost(
     if hard {
         match rows::class_of(cause) {
             Class::CameNone => {
-                let away = Signal::release(
-                    Kind::ReroutingRelease,
-                    rerouting,
-                    SentCause::Absent,
-                    CauseCode::CallRejected,
-                );
+                let away = turned_away(Kind::ReroutingRelease, rerouting);
                 Effect::done(State::HardWaiting, Signal::TIMER_START, away, Signal::NONE)
             }
             Class::CameOutside => told_both(
@@ -196,12 +187,7 @@ fn awaiting_dropped(
 {
     let outside = SentCause::Numbered(ReroutingCause::OUTSIDE);
     let failed = SentCause::Numbered(ReroutingCause::NOT_RECOVERED);
-    let other = Signal::release(
-        Kind::IncumbentRelease,
-        incumbent,
-        SentCause::Absent,
-        CauseCode::Section66,
-    );
+    let other = released(Kind::IncumbentRelease, incumbent, SentCause::Absent);
     match rows::class_of(cause) {
         Class::CameNone => Effect::moved(State::Idle(incumbent)),
         Class::CameOutside => Effect::told(Node::Source, outside, other),

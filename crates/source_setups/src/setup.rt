@@ -13,7 +13,8 @@ ghost use Rattle.source_rows.specs.Shared.{in_call};
 ghost use Rattle.source_setups.specs.Effects.{in_progress_stored, setup_effect};
 
 use rows::{Effect, State};
-use signal::{Answer, CauseCode, Kind, ReroutingCause, SentCause, Signal, Soft, Switchover};
+use shared_rows::released;
+use signal::{Answer, Kind, ReroutingCause, SentCause, Signal, Soft, Switchover};
 
 // Row 4: a new rerouting connection; and row 5: the older one is released on its own number.
 fn accepted(incumbent: u16, rerouting: u16, sent: Signal) -> Effect
@@ -31,12 +32,7 @@ fn accepted(incumbent: u16, rerouting: u16, sent: Signal) -> Effect
 fn older_released(older: u16) -> Signal
     ensures { result ≡ release_of ReroutingRelease older Absent }
 {
-    Signal::release(
-        Kind::ReroutingRelease,
-        older,
-        SentCause::Absent,
-        CauseCode::Section66,
-    )
+    released(Kind::ReroutingRelease, older, SentCause::Absent)
 }
 
 // Row 3: a reroute is in progress. The setup is rejected, and its number stored all the same.
