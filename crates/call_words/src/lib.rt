@@ -1,6 +1,6 @@
 // A call's record as a line of numbers: key, hard, soft, state, incumbent, rerouting, last, remote; 0 for a connection that the state does
 // not hold.
-#![tactic(auto)]
+#![tactic(auto, using(lines::proofs::Lines::texts_put, lines::proofs::Lines::nothing_put))]
 
 ghost use Rattle.std.specs.Prelude.{◌≡◌};
 ghost use Rattle.lines.specs.Line.{with_text};

@@ -2,7 +2,7 @@
 // (docs/CELLS.md).
 //
 // Each function puts what it is named after onto a line (crate lines).
-#![tactic(auto)]
+#![tactic(auto, using(lines::proofs::Lines::texts_put, lines::proofs::Lines::nothing_put))]
 
 ghost use Rattle.std.specs.Prelude.{◌≡◌};
 ghost use Rattle.lines.specs.Line.{with_text};

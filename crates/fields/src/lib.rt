@@ -96,6 +96,7 @@ fn put_field_within(line: &mut Line, number: u32, end: u8)
 // Byte by byte, in any buffer.
 #[cold]
 #[inline(never)]
+#[tactic(auto, using(lines::proofs::Lines::texts_put, lines::proofs::Lines::byte_put))]
 fn put_slowly(line: &mut Line, number: u64, end: u8)
     ensures { line.new ≡ with_text line.old (number_text number ++ (end ∷ [])) }
 {

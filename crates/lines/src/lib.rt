@@ -42,6 +42,7 @@ impl Line<'_> {
     }
 
     // A word, and a number behind it.
+    #[tactic(auto, using(crate::proofs::Lines::texts_put))]
     pub fn put_numbered(&mut self, word: &[u8], number: u64)
         ensures { self.new ≡ with_text self.old (word.now ++ number_text number) }
     {

@@ -3,7 +3,7 @@
 //
 // `event_record` takes a record out of what was read and says what it is, and `print` puts its line, or what is wrong with it, into a
 // buffer. The rest is reading and writing: all that has come is printed before more is waited for.
-#![tactic(auto)]
+#![tactic(auto, using(lines::proofs::Lines::texts_put, lines::proofs::Lines::nothing_put))]
 
 mod print;
 

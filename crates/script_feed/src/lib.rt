@@ -3,7 +3,7 @@
 //
 // `script_line::parse` reads a line and `event_record::encode` makes its record; the rest is reading and writing. Of a line its octets in
 // front of a comment are kept, 4,096 at most.
-#![tactic(auto)]
+#![tactic(auto, using(lines::proofs::Lines::texts_put, lines::proofs::Lines::nothing_put))]
 
 mod buffer;
 mod print;

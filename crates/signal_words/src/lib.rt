@@ -1,6 +1,6 @@
 // The four signals of an event in words, as the bench prints them: `-` where none is sent, else for instance `switch 4, release incumbent 3
 // #4`.
-#![tactic(auto)]
+#![tactic(auto, using(lines::proofs::Lines::texts_put, lines::proofs::Lines::nothing_put))]
 
 ghost use Rattle.std.specs.Prelude.{◌≡◌, ◌||◌};
 ghost use Rattle.lines.specs.Line.{with_text};

@@ -19,6 +19,7 @@ pub enum Columns {
 }
 
 // The names of the columns.
+#[tactic(auto, unfolding(crate::specs::Line::first_line))]
 pub fn put_first_line(line: &mut Line, columns: Columns)
     ensures { line.new ≡ with_text line.old (first_line columns) }
 {
@@ -31,6 +32,7 @@ pub fn put_first_line(line: &mut Line, columns: Columns)
 }
 
 // The answer, the state, and what it holds.
+#[tactic(auto, using(lines::proofs::Lines::texts_put), unfolding(crate::specs::Line::numbers_text))]
 fn put_numbers(line: &mut Line, answer: Answer, state: State)
     ensures { line.new ≡ with_text line.old (numbers_text answer state) }
 {
@@ -40,6 +42,7 @@ fn put_numbers(line: &mut Line, answer: Answer, state: State)
     put_field(line, state.rerouting() as u32, b' ');
 }
 
+#[tactic(auto, using(lines::proofs::Lines::texts_put, lines::proofs::Lines::byte_put), unfolding(crate::specs::Line::rest_text))]
 fn put_rest(line: &mut Line, columns: Columns, outcome: Outcome)
     ensures { line.new ≡ with_text line.old (rest_text columns outcome) }
 {
@@ -55,6 +58,7 @@ fn put_rest(line: &mut Line, columns: Columns, outcome: Outcome)
 }
 
 // The line of a record: its count, and what came of it.
+#[tactic(auto, using(lines::proofs::Lines::texts_put), unfolding(crate::specs::Line::line_text))]
 pub fn put_line(line: &mut Line, columns: Columns, count: u64, outcome: Outcome)
     ensures { line.new ≡ with_text line.old (line_text columns count outcome) }
 {

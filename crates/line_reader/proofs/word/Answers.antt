@@ -10,9 +10,7 @@ slice_bounds-result-count c =
     (c.past-to.ensures is_of_word (λ octet r k. search rules))
 
 pub slice_bounds-result-start : goal.slice_bounds-result-start
-slice_bounds-result-start c =
-    in_order c.args.line.now c.args.at c.past-from.result c.past-to.result (c.past-from.ensures is_blank (λ octet r k. search rules))
-    (c.past-to.ensures is_of_word (λ octet r k. search rules))
+slice_bounds-result-start c = slice_bounds-result-count c
 
 pub slice_bounds-result-end : goal.slice_bounds-result-end
 slice_bounds-result-end c = let e = c.past-to.ensures is_of_word (λ octet r k. search rules) in omega arith

@@ -1,6 +1,0 @@
--- Two parts put one after the other.
-use Rattle.lines.proofs.Lines.{and_then}
-use Rattle.event_words.proofs.put_setup.Goals as goal
-
-pub returns : goal.returns
-returns c = and_then _ _ _ _ _ c.put_switchover.ensures c.put_numbered.ensures

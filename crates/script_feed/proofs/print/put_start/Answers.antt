@@ -1,6 +1,0 @@
--- Three parts put one after the other.
-use Rattle.lines.proofs.Lines.{and_then}
-use Rattle.script_feed.proofs.print.put_start.Goals as goal
-
-pub returns : goal.returns
-returns c = and_then _ _ _ _ _ c.put_name.ensures (and_then _ _ _ _ _ c.put_numbered.ensures c.put_word.ensures)
