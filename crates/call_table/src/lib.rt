@@ -16,7 +16,7 @@ ghost use Rattle.call_table.specs.Reading.{is_enough, places_in, fetched_from, n
 use call::{Call, Outcome};
 use events::{Act, NodeAct};
 use rows::State;
-use signal::{Answer, Signal};
+use signal::{Answer, Signal, Soft};
 
 // What is found of the record with the key, and of the lowest empty one: its place and itself, or its place alone.
 #[derive(Clone, Copy)]
@@ -56,11 +56,17 @@ pub struct Ran {
 fn emptied(call: Call) -> bool
     ensures { result ≡ is_emptied call }
 {
-    !call.hard
-        && call.soft.number() == 0
-        && call.state.number() == 0
-        && call.last == 0
-        && call.remote == 0
+    matches!(
+        call,
+        Call {
+            hard: false,
+            soft: Soft::NoSoft,
+            state: State::Null,
+            last: 0,
+            remote: 0,
+            ..
+        }
+    )
 }
 
 fn within(last: u16, number: u16) -> bool

@@ -48,7 +48,7 @@ pub fn named(signal: Signal) -> Names
 fn whole(high: u8, low: u8) -> usize
     ensures { result ≡ whole_of high low }
 {
-    4 + high as usize * 256 + low as usize
+    4 + usize::from(u16::from_be_bytes([high, low]))
 }
 
 // How much of a string is its element: four octets of header, and as many more as the third and fourth say; none where it is too short for
@@ -71,16 +71,10 @@ pub fn element<'a>(received: &'a [u8], own: &'a [u8], signal: Signal) -> &'a [u8
     ensures { (result.now ≡ element_of received.now own.now signal)
         × (result.ref_ptr ≡ (string_of received.entry own.entry signal).ref_ptr) }
 {
-    let string = named(signal);
-    match string {
-        Names::TheReceived => {
-            let count = length(received);
-            &received[..count]
-        }
-        Names::TheOwn => {
-            let count = length(own);
-            &own[..count]
-        }
+    let string = match named(signal) {
+        Names::TheReceived => received,
+        Names::TheOwn => own,
         Names::Neither => &own[..0],
-    }
+    };
+    &string[..length(string)]
 }

@@ -36,14 +36,11 @@ pub struct Fault {
 fn above(highest: u8, octet: u8, value: u8, expected: Expected) -> Option<Fault>
     ensures { result ≡ cond (ltb highest value) (misses octet value expected) None }
 {
-    if highest < value {
-        return Some(Fault {
-            octet,
-            value,
-            expected,
-        });
-    }
-    None
+    (highest < value).then_some(Fault {
+        octet,
+        value,
+        expected,
+    })
 }
 
 fn open(named: u8, hard: u8, soft: u8) -> Option<Fault>

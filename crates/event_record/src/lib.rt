@@ -5,7 +5,7 @@
 
 ghost use Rattle.std.specs.Prelude.{◌≡◌, length, ◌+◌, ◌≤◌, ◌%◌};
 ghost use Rattle.event_record.specs.Places.{record_at, rest_length, rest_kept};
-ghost use Rattle.event_record.specs.Record.{number_of, soft_of, crankback_of, cause_of, open_of, connect_of, calling_of, called_of};
+ghost use Rattle.event_record.specs.Record.{soft_of, crankback_of, cause_of, open_of, connect_of, calling_of, called_of};
 ghost use Rattle.event_record.specs.Record.{plain_of, request_of, kind_at, decoded_at};
 ghost use Rattle.event_record.specs.Encoded.{flag_number, present_number, cause_number, brought, open_values, event_values, act_values};
 ghost use Rattle.event_record.specs.Encoded.{laid_out, values_at, written_at};
@@ -32,13 +32,6 @@ struct Values {
     number: u32,
 }
 
-// Four octets, the first the highest.
-fn number(first: u8, second: u8, third: u8, fourth: u8) -> u32
-    ensures { result ≡ number_of first second third fourth }
-{
-    u32::from_be_bytes([first, second, third, fourth])
-}
-
 fn soft(number: u8) -> Soft
     ensures { result ≡ soft_of number }
 {
@@ -62,10 +55,7 @@ fn crankback(number: u8) -> Crankback
 fn cause(present: u8, number: u8) -> Option<ReroutingCause>
     ensures { result ≡ cause_of present number }
 {
-    if present == 0 {
-        return None;
-    }
-    Some(ReroutingCause { number })
+    (present != 0).then_some(ReroutingCause { number })
 }
 
 fn open(named: u8, hard: u8, kind: u8) -> Option<Act>
@@ -154,20 +144,18 @@ pub fn kind_at(node: Node, kind: u8) -> u8
 pub fn decode(node: Node, octets: [u8; 16]) -> Decoded
     ensures { result ≡ decoded_at node octets }
 {
-    let key = number(octets[4], octets[5], octets[6], octets[7]);
-    let named = number(octets[8], octets[9], octets[10], octets[11]);
-    let kind = kind_at(node, octets[0]);
-    let request = asked(kind, octets[1], octets[2], octets[3], named);
+    let [kind, first, second, third, k0, k1, k2, k3, ..] = octets;
+    let [.., n0, n1, n2, n3, _, _, _, _] = octets;
+    let key = u32::from_be_bytes([k0, k1, k2, k3]);
+    let number = u32::from_be_bytes([n0, n1, n2, n3]);
+    let request = asked(kind_at(node, kind), first, second, third, number);
     Decoded { key, request }
 }
 
 fn flag_number(flag: bool) -> u8
     ensures { result ≡ flag_number flag }
 {
-    if flag {
-        return 1;
-    }
-    0
+    flag as u8
 }
 
 fn present_number(cause: Option<ReroutingCause>) -> u8
@@ -290,14 +278,10 @@ fn laid_out(key: u32, values: Values) -> [u8; 16]
 fn values_at(node: Node, values: Values) -> Values
     ensures { result ≡ values_at node values }
 {
-    let kind = kind_at(node, values.kind);
-    brought(
-        kind,
-        values.first,
-        values.second,
-        values.third,
-        values.number,
-    )
+    Values {
+        kind: kind_at(node, values.kind),
+        ..values
+    }
 }
 
 pub fn encode(node: Node, key: u32, act: Act) -> [u8; 16]
@@ -307,28 +291,12 @@ pub fn encode(node: Node, key: u32, act: Act) -> [u8; 16]
 }
 
 // The record at a place among octets that were read.
+#[tactic(auto, unfolding(crate::specs::Places::record_at))]
 pub fn record_at(octets: &[u8], place: usize) -> [u8; 16]
     requires { place + 16 ≤ length octets.now }
     ensures { result ≡ record_at octets.now place }
 {
-    [
-        octets[place],
-        octets[place + 1],
-        octets[place + 2],
-        octets[place + 3],
-        octets[place + 4],
-        octets[place + 5],
-        octets[place + 6],
-        octets[place + 7],
-        octets[place + 8],
-        octets[place + 9],
-        octets[place + 10],
-        octets[place + 11],
-        octets[place + 12],
-        octets[place + 13],
-        octets[place + 14],
-        octets[place + 15],
-    ]
+    *octets[place..].first_chunk::<16>().unwrap()
 }
 
 // What stands behind the last whole record among the first octets comes to the front; how many octets that is.

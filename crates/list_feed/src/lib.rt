@@ -1,8 +1,8 @@
 // Event records of an end of a call from standard input, each printed as its line of `script` with its count (docs/BENCH.md, "list"): the
 // programs `list` and `destination_list`.
 //
-// `event_record` takes a record out of what was read and says what it is, and `print` puts its line, or what is wrong with it, into a
-// buffer. The rest is reading and writing: all that has come is printed before more is waited for.
+// `event_record` says what a record is, and `print` puts its line, or what is wrong with it, into a buffer. The rest is reading and
+// writing: all that has come is printed before more is waited for.
 #![tactic(auto, using(lines::proofs::Lines::texts_put, lines::proofs::Lines::nothing_put))]
 
 mod print;
@@ -63,13 +63,12 @@ impl Console {
             buffer: output,
             at: 0,
         };
-        for index in 0..octets.len() / 16 {
-            let record = event_record::record_at(octets, index * 16);
-            let decoded = event_record::decode(self.node, record);
+        for record in octets.as_chunks::<16>().0 {
+            let decoded = event_record::decode(self.node, *record);
             count = count.saturating_add(1);
             let Some(act) = decoded.request else {
                 streams::write_line(&mut self.stdout, &line)?;
-                self.refuse(count, record);
+                self.refuse(count, *record);
                 return Err(Stop::Bad);
             };
             print::put_line(&mut line, self.node, count, decoded.key, act);

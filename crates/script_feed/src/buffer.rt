@@ -22,7 +22,7 @@ impl Buffer {
         &self.octets[..self.length]
     }
 
-    // Whether there was room for it.
+    // Whether there was room for it. A bool, since a Result would be no plainer: no value comes of it, and there is one reason for a no.
     pub(crate) fn push(&mut self, octet: u8) -> bool {
         if self.length < self.octets.len() {
             self.octets[self.length] = octet;

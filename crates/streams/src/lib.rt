@@ -68,6 +68,7 @@ pub fn read_full<R: Read>(input: &mut R, buf: &mut [u8]) -> usize
     ensures octets { Consumes (R.remaining input.old) (R.remaining input.new) (take result buf.new) }
 {
     let mut done = 0;
+    // no `for`: it goes on by what a read put there, which is not one octet at a time
     while done < buf.len() {
         match read_some(input, &mut buf[done..]) {
             Err(_) | Ok(0) => return done,
@@ -83,6 +84,7 @@ pub fn write_all<W: Write>(output: &mut W, buf: &[u8]) -> Result<(), Failure>
     ensures { WritesAll (W.contents output.old) (W.contents output.new) buf.now result }
 {
     let mut done = 0;
+    // no `for`: it goes on by what a write took, which is not one octet at a time
     while done < buf.len() {
         match output.write(&buf[done..]) {
             Err(_) | Ok(0) => return Err(Failure::Writing),

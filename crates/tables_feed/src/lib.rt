@@ -66,9 +66,7 @@ impl Console {
         }
         let mut table = octets::records(&body[..count * 20]).ok_or(Stop::Bad)?;
         let event = event_record::decode(self.node, event_record::record_at(body, count * 20));
-        let Some(act) = event.request else {
-            return Err(Stop::Bad);
-        };
+        let act = event.request.ok_or(Stop::Bad)?;
         let node = self.node;
         let held = &mut table[..count];
         let done = first::handle(said < UNCHECKED, held, event.key, NodeAct { node, act });

@@ -24,6 +24,7 @@ pub struct Stop {
     pub table: [Call; 64],
     pub at: usize,
     pub count: u64,
+    // a flag and no Result: the other fields count where it is false too (`Stops`)
     pub good: bool,
 }
 
