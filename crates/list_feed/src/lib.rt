@@ -73,10 +73,7 @@ impl Console {
                 return Err(Stop::Bad);
             };
             print::put_line(&mut line, self.node, count, decoded.key, act);
-            if 65000 < line.at {
-                streams::write_line(&mut self.stdout, &line)?;
-                line.at = 0;
-            }
+            streams::write_long(&mut self.stdout, &mut line, 65000)?;
         }
         streams::write_line(&mut self.stdout, &line)?;
         Ok(count)
