@@ -19,10 +19,7 @@ pub(crate) fn part(mut stdout: Stdout, string: Names, octets: &[u8]) -> Result<(
     line.put_byte(b' ');
     for octet in octets {
         put_octet(&mut line, *octet);
-        if 4000 < line.at {
-            streams::write_line(&mut stdout, &line)?;
-            line.at = 0;
-        }
+        streams::write_long(&mut stdout, &mut line, 4000)?;
     }
     line.put_byte(b'\n');
     streams::write_line(&mut stdout, &line)

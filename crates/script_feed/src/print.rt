@@ -18,6 +18,7 @@ fn put_name(line: &mut Line, node: Node)
     put_program(line, node, b"script");
 }
 
+// So in list_feed and, with a name that it is given, trace_feed: one public function for the three would save a line in each.
 pub(crate) fn put_failure(line: &mut Line, node: Node, failure: Failure) {
     put_name(line, node);
     line.put_word(&failure.told());

@@ -23,6 +23,7 @@ use Rattle.std.specs.Prelude.{Result, Ok, Err, Some, ◌<◌, ◌≤◌, take}
 use Rattle.std.specs.Io.KnownBytes.{Appends, Consumes, IsAtEnd, Keeps}
 use Rattle.std.specs.declared.io.traits.Read as Read
 use Rattle.std.specs.declared.io.traits.Write as Write
+use Rattle.lines.specs.declared.Line.{Line}
 use Rattle.streams.specs.declared.Failure.{Failure}
 use Rattle.streams.specs.declared.Failure.TheVariants.{Reading, Writing}
 use Rattle.streams.specs.Streams.{told_of}
@@ -32,6 +33,7 @@ use Rattle.streams.specs.contracts.read_full as read_full
 use Rattle.streams.specs.contracts.write_all as write_all
 use Rattle.lines.proofs.Lines.{line_of}
 use Rattle.streams.specs.contracts.write_line as write_line
+use Rattle.streams.specs.contracts.write_long as write_long
 use Rattle.streams.specs.contracts.zeros as zeros
 
 -- something that is lent; where it stands says nothing here
@@ -205,3 +207,24 @@ module _ {M : Type 1} {𝓤 : Ura M} (𝓛 : Logic 𝓤) (memory : Memory → SP
       let grown = subst (λ new. Appends (Some []) new (2 ∷ [])) after
       (subst (λ old. Appends old (writes.contents written) (2 ∷ [])) before (h.0 (omega arith))) in
       let z : ◌≡◌ {A = ℕ} 2 1 = ap (λ (xs : List ℕ). length xs) grown in omega arith)
+
+  -- write_long: of a stream, a line and a limit, whether it went well, what is written then, and the line that is left
+  abbrev write_long_shuts_out : (W : RattleType) → Write.Ghosts W.Denot → Dict → W.Denot → Line → ℕ → Result Unit Failure → W.Denot → Line → Type 1
+  write_long_shuts_out W writes dict output line limit r written left =
+      (κs : Lfts 4) → NeverHolds ((write_long.clauses W writes dict 𝓛 memory run κs (lent_mut output, (lent_mut line, (limit, tt)))
+      ).ensures tt r (lent_mut written, (lent_mut left, (limit, tt))))
+
+  -- a line as long as the limit waits for more
+  pub line_as_long_as_the_limit_is_written : (W : RattleType) (writes : Write.Ghosts W.Denot) (dict : Dict) (output written : W.Denot)
+      (left : Line) →
+      writes.contents output ≡ Some [] → writes.contents written ≡ Some (2 ∷ []) →
+      write_long_shuts_out W writes dict output (line_of (2 ∷ 3 ∷ []) 1) 1 (Ok tt) written left
+  line_as_long_as_the_limit_is_written W writes dict output written left before after κs = fact_mono 𝓤 _ _ (λ h.
+      let kept = subst (λ new. Keeps (Some []) new) after (subst (λ old. Keeps old (writes.contents written)) before (h.1 (omega arith)).1) in
+      let z : ◌≡◌ {A = ℕ} 1 0 = ap (λ (xs : List ℕ). length xs) kept in omega arith)
+
+  -- a line that is written begins anew
+  pub written_line_goes_on : (W : RattleType) (writes : Write.Ghosts W.Denot) (dict : Dict) (output written : W.Denot) (left : List ℕ) →
+      write_long_shuts_out W writes dict output (line_of (2 ∷ 3 ∷ []) 1) 0 (Ok tt) written (line_of left 1)
+  written_line_goes_on W writes dict output written left κs = fact_mono 𝓤 _ _ (λ h.
+      let z : ◌≡◌ {A = ℕ} 1 0 = ap (λ (l : Line). l.at) (h.0 (omega arith)).1 in omega arith)

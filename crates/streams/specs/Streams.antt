@@ -1,5 +1,5 @@
 -- What a read and a write do to the octets that a stream has, where those are known (`None`: they are not).
-use Rattle.std.specs.Prelude.{ℕ, Option, Result, Err, List, [], ◌∷◌, ◌++◌, codes, ◌≡◌, ◌<◌, ◌≤◌, length, take, MatchResult}
+use Rattle.std.specs.Prelude.{ℕ, Option, Result, Err, List, [], ◌∷◌, ◌++◌, codes, ◌≡◌, ◌<◌, ◌≤◌, length, take, MatchResult, Ok}
 use Rattle.std.specs.Io.KnownBytes.{Appends, Consumes, IsAtEnd, Keeps}
 use Rattle.lines.specs.declared.Line.{Line}
 use Rattle.streams.specs.declared.Failure.{Failure}
@@ -30,3 +30,10 @@ abbrev pub WritesLine : Option (List ℕ) → Option (List ℕ) → Line → Res
 WritesLine old new line r =
     (line.at < length line.buffer.now → WritesAll old new (take line.at line.buffer.now) r)
     × (length line.buffer.now ≤ line.at → (r ≡ Err Writing) × Keeps old new)
+
+-- a line that is longer than the limit is written, and begins anew where that did not fail; else nothing happens
+abbrev pub WritesLong : Option (List ℕ) → Option (List ℕ) → Line → Line → ℕ → Result Unit Failure → Type 0
+WritesLong old new before after limit r =
+    (limit < before.at → WritesLine old new before r
+    × MatchResult r (λ _. after ≡ record { buffer = before.buffer; at = 0 }) (λ _. after ≡ before))
+    × (before.at ≤ limit → (r ≡ Ok tt) × Keeps old new × (after ≡ before))

@@ -6,7 +6,7 @@
 ghost use Rattle.std.specs.Prelude.{◌≡◌, length, replicate, take, IfOk};
 ghost use Rattle.std.specs.Io.KnownBytes.{Consumes};
 ghost use Rattle.streams.specs.declared.Stop.TheVariants.{Fails};
-ghost use Rattle.streams.specs.Streams.{told_of, IsFrontLen, ReadsSome, WritesAll, WritesLine};
+ghost use Rattle.streams.specs.Streams.{told_of, IsFrontLen, ReadsSome, WritesAll, WritesLine, WritesLong};
 
 use lines::Line;
 use std::io::{Read, Write};
@@ -103,4 +103,15 @@ pub fn write_line<W: Write>(output: &mut W, line: &Line) -> Result<(), Failure>
         return write_all(output, &line.buffer[..at]);
     }
     Err(Failure::Writing)
+}
+
+// Writes a line that is longer than the limit, and begins it anew; a shorter one waits for more.
+pub fn write_long<W: Write>(output: &mut W, line: &mut Line, limit: usize) -> Result<(), Failure>
+    ensures { WritesLong (W.contents output.old) (W.contents output.new) line.old line.new limit result }
+{
+    if limit < line.at {
+        write_line(output, line)?;
+        line.at = 0;
+    }
+    Ok(())
 }

@@ -24,10 +24,7 @@ pub(crate) fn table(
     for call in records {
         call_words::put_call(&mut line, *call);
         line.put_byte(b'\n');
-        if 4096 - LINE < line.at {
-            streams::write_line(&mut stdout, &line)?;
-            line.at = 0;
-        }
+        streams::write_long(&mut stdout, &mut line, 4096 - LINE)?;
     }
     streams::write_line(&mut stdout, &line)
 }
