@@ -1,8 +1,6 @@
 -- The law of one possible answer, and the shapes that it takes: one for each form that a contract has. Assumes nothing.
 use seplogic.Ra.Ura.{Ura}
-use Prim.Native.Nat.{ℕ}
-use mathlib.Core.Path.{◌≡◌, sym, ◌∙◌, refl, ap}
-use mathlib.Core.List.{List}
+use mathlib.Core.Path.{◌≡◌, sym, ◌∙◌, refl}
 use base.Logic.{ent, sep, via, snd∗}
 use contract.Monad.{conj, conj_l, conj_r, conj_mono, fact, fact_use, fact_i}
 

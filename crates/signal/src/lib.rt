@@ -173,16 +173,12 @@ impl Signal {
 
     pub const TIMER_START: Signal = Signal {
         kind: Kind::TimerStart,
-        connection: 0,
-        cause: SentCause::Absent,
-        code: CauseCode::Section66,
+        ..Signal::NONE
     };
 
     pub const TIMER_STOP: Signal = Signal {
         kind: Kind::TimerStop,
-        connection: 0,
-        cause: SentCause::Absent,
-        code: CauseCode::Section66,
+        ..Signal::NONE
     };
 
     // A switch, setup or connect: it names a connection and carries no Rerouting cause.
@@ -192,8 +188,7 @@ impl Signal {
         Signal {
             kind,
             connection,
-            cause: SentCause::Absent,
-            code: CauseCode::Section66,
+            ..Signal::NONE
         }
     }
 
@@ -215,9 +210,8 @@ impl Signal {
     {
         Signal {
             kind: Kind::Rejection,
-            connection: 0,
             cause: SentCause::Numbered(cause),
-            code: CauseCode::Section66,
+            ..Signal::NONE
         }
     }
 }

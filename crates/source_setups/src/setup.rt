@@ -40,16 +40,8 @@ fn in_progress(state: State) -> Effect
     ensures { result ≡ in_progress_stored state }
 {
     Effect {
-        answer: Answer::Done,
-        state,
-        gives: false,
         stores: true,
-        signals: [
-            Signal::rejection(ReroutingCause::IN_PROGRESS),
-            Signal::NONE,
-            Signal::NONE,
-            Signal::NONE,
-        ],
+        ..Effect::rejected(ReroutingCause::IN_PROGRESS, state)
     }
 }
 
