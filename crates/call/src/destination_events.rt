@@ -1,4 +1,5 @@
-// The events of the destination node (6.3), as methods on the record.
+// The events of the destination node (6.3), as methods on the record. Each is a promise of its own (docs/PROMISES.md), and so stands
+// once for either end.
 ghost use Rattle.std.specs.Prelude.{◌≡◌};
 ghost use Rattle.events.specs.declared.Event.TheVariants.{Trigger, PathFound, NoPath, Connect, Setup};
 ghost use Rattle.events.specs.declared.Event.TheVariants.{FromParty, FromDomain, Ready, Expiry};

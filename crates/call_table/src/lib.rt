@@ -25,7 +25,8 @@ pub struct Sought<T> {
     pub free: Option<T>,
 }
 
-// What one reading of the row tells: that every record is fit by itself, and what is sought.
+// What one reading of the row tells: that every record is fit by itself, and what is sought, which counts where one is
+// unfit too (`seen_of`).
 #[derive(Clone, Copy)]
 pub struct Seen {
     pub sound: bool,
@@ -45,7 +46,8 @@ pub struct SixtyFour {
     pub done: Done,
 }
 
-// What is decided: the answer, and the record to put at a place. A refusal's place is past the end.
+// What is decided: the answer, and the record to put at a place. A refusal's place is past the end, and no `None`:
+// so the new row is one equation for every outcome (decision 34).
 #[derive(Clone, Copy)]
 pub struct Ran {
     pub done: Done,

@@ -7,7 +7,7 @@ ghost use Rattle.cause_element.specs.Element.{named_by_cause, named_by, whole_of
 
 use signal::{Kind, SentCause, Signal};
 
-// Which string a signal names.
+// Which string a signal names. An enum of three and no `Option`: `named_by` of specs/ has the three by name.
 #[derive(Clone, Copy)]
 pub enum Names {
     TheReceived,

@@ -1,5 +1,5 @@
 // The rows of a release from the calling side, for a connection (6.3.4), as direct code: each function returns the row of the page, carried
-// out.
+// out. What a row takes it takes one by one, as the page of rows does.
 #![tactic(auto)]
 
 ghost use Rattle.std.specs.Prelude.{◌≡◌};

@@ -1,4 +1,5 @@
-// A reroute setup from the far side, 6.3.5: the checks in their order, then the rows by state.
+// A reroute setup from the far side, 6.3.5: the checks in their order, then the rows by state. What a row takes it takes one by
+// one, as the page of rows does.
 ghost use Rattle.std.specs.Prelude.{◌≡◌, true, not, ◌&&◌, None, Some};
 ghost use Rattle.signal.specs.declared.CauseCode.TheVariants.{CallRejected};
 ghost use Rattle.signal.specs.declared.Kind.TheVariants.{ReroutingRelease};

@@ -1,5 +1,5 @@
 // What is wrong with an event record that is bad: the first octet that is not named, in the order of octets, and what was expected there;
-// and that in words (docs/BENCH.md, "list").
+// and that in words (docs/BENCH.md, "list"). The tests are those of `decode`, which promises another answer (`ExactlyTheBad`).
 #![tactic(auto, using(lines::proofs::Lines::texts_put, lines::proofs::Lines::nothing_put))]
 
 ghost use Rattle.std.specs.Prelude.{◌≡◌, cond, ltb, None};

@@ -32,6 +32,7 @@ struct Values {
     number: u32,
 }
 
+// Of any octet, as `soft_of` has it: one above 2 is bad before it comes here. Crankback likewise.
 fn soft(number: u8) -> Soft
     ensures { result ≡ soft_of number }
 {
@@ -130,7 +131,8 @@ fn asked(kind: u8, first: u8, second: u8, third: u8, number: u32) -> Option<Act>
     }
 }
 
-// Which release a kind is: at the destination the calling side's names the connection.
+// Which release a kind is, by its number (script_line exchanges the two by their names): at the destination the calling side's names the
+// connection.
 pub fn kind_at(node: Node, kind: u8) -> u8
     ensures { result ≡ kind_at node kind }
 {
@@ -173,11 +175,7 @@ fn cause_number(cause: Option<ReroutingCause>) -> u8
 fn crankback_number(back: Crankback) -> u8
     ensures { result ≡ crankback_number back }
 {
-    match back {
-        Crankback::NoCrankback => 0,
-        Crankback::AlternateFound => 1,
-        Crankback::NoAlternate => 2,
-    }
+    back as u8
 }
 
 fn brought(kind: u8, first: u8, second: u8, third: u8, number: u32) -> Values

@@ -88,7 +88,7 @@ fn put_crankback(line: &mut Line, back: Crankback)
     }
 }
 
-// The side of the node's own party.
+// The side of the node's own party. Two arms here and two below are as plain as one function with a parameter.
 fn put_party(line: &mut Line, node: Node)
     ensures { line.new ≡ with_text line.old (party_text node) }
 {

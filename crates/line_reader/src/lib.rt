@@ -34,7 +34,7 @@ fn past<F: Fn(u8) -> bool>(line: &[u8], at: usize, passes: F) -> usize
     line.len()
 }
 
-// The place behind the next word.
+// The place behind the next word. A line and a place, here and below: it is promised for any place, past the end too.
 pub fn after(line: &[u8], at: usize) -> usize
     ensures { result ≡ place_after line.now at }
 {

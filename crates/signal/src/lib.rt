@@ -75,9 +75,9 @@ pub enum CauseCode {
 // The Crankback element of a called-side release, with what the node's own search for an alternate path found.
 #[derive(Clone, Copy)]
 pub enum Crankback {
-    NoCrankback,
-    AlternateFound,
-    NoAlternate,
+    NoCrankback = 0,
+    AlternateFound = 1,
+    NoAlternate = 2,
 }
 
 // The switchover behaviour that a reroute setup asks for, by its code.

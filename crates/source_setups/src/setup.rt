@@ -1,4 +1,5 @@
-// A reroute setup from the neighbour, 6.2.7: the checks in their order, then the rows by state.
+// A reroute setup from the neighbour, 6.2.7: the checks in their order, then the rows by state. What a row takes it takes one by
+// one, as the page of rows does.
 ghost use Rattle.std.specs.Prelude.{◌≡◌, true, None};
 ghost use Rattle.signal.specs.Numbers.{is_late};
 ghost use Rattle.signal.specs.declared.Kind.TheVariants.{ReroutingRelease};
