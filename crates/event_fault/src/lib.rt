@@ -6,7 +6,7 @@ ghost use Rattle.std.specs.Prelude.{◌≡◌, cond, ltb, None};
 ghost use Rattle.lines.specs.Line.{with_text};
 ghost use Rattle.event_fault.specs.Fault.{misses, open_fault, connection_fault, connect_fault, calling_fault, called_fault, kind_fault};
 ghost use Rattle.event_fault.specs.Fault.{fault_at};
-ghost use Rattle.event_fault.specs.Words.{expected_text, byte_text, fault_text};
+ghost use Rattle.event_fault.specs.Words.{expected_text, fault_text};
 
 use events::Node;
 use lines::Line;

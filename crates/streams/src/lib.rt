@@ -105,7 +105,7 @@ pub fn write_line<W: Write>(output: &mut W, line: &Line) -> Result<(), Failure>
     Err(Failure::Writing)
 }
 
-// Writes a line that is longer than the limit, and begins it anew; a shorter one waits for more.
+// Writes a line that is longer than the limit, and begins it anew; any other waits for more.
 pub fn write_long<W: Write>(output: &mut W, line: &mut Line, limit: usize) -> Result<(), Failure>
     ensures { WritesLong (W.contents output.old) (W.contents output.new) line.old line.new limit result }
 {
