@@ -12,9 +12,9 @@ use Rattle.events.specs.declared.Node.TheVariants.{Source, Destination}
 use Rattle.event_record.specs.Record.{octet, kind_at}
 use Rattle.events.specs.declared.Act.{Act}
 use Rattle.event_fault.specs.Claims as claim
-use Rattle.event_fault.specs.Fault.{misses, fault_at}
+use Rattle.event_fault.specs.Fault.{fault_at}
 use Rattle.event_fault.specs.declared.Fault.{Fault}
-use Rattle.std.specs.Prelude.{Option, None}
+use Rattle.std.specs.Prelude.{Option, Some, None}
 use Rattle.event_fault.proofs.Exactly.{Alike, both_bad, both_sound, kind_alike}
 use Rattle.event_fault.proofs.First.{Names, Tells, below, kind_tells}
 
@@ -49,7 +49,7 @@ pub all_are_named : claim.AllAreNamed
 all_are_named node os octets e = subst (Tells (octet os) (kind_at node (octet os 0))) e (tells node os octets)
 
 pub the_first : claim.TheFirst
-the_first node os octets byte value expected e =
-    let told : Tells (octet os) (kind_at node (octet os 0)) (misses byte value expected) =
+the_first node os octets f e =
+    let told : Tells (octet os) (kind_at node (octet os 0)) (Some f) =
     subst (Tells (octet os) (kind_at node (octet os 0))) e (tells node os octets) in
-    (told.0, (told.1.0, below _ byte told.1.1))
+    (told.0, (told.1.0, below _ f.octet told.1.1))

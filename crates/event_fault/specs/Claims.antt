@@ -1,10 +1,10 @@
 -- What is claimed of a fault: that it is found exactly in a bad record, and that the byte told is the first that is not named. Proofs:
 -- proofs/Claims.antt. Assumes nothing.
-use Rattle.std.specs.Prelude.{ℕ, ◌≤◌, ◌<◌, Bool, ◌||◌, cond, ◌↔◌, ◌≡◌, List, eqb, None}
+use Rattle.std.specs.Prelude.{ℕ, ◌≤◌, ◌<◌, Bool, ◌||◌, cond, ◌↔◌, ◌≡◌, List, eqb, Some, None}
 use Rattle.events.specs.declared.Node.{Node}
 use Rattle.event_record.specs.Record.{octet, kind_at, decoded_at}
-use Rattle.event_fault.specs.Fault.{misses, fault_at}
-use Rattle.event_fault.specs.declared.Expected.{Expected}
+use Rattle.event_fault.specs.Fault.{fault_at}
+use Rattle.event_fault.specs.declared.Fault.{Fault}
 
 abbrev pub Octets : List ℕ → Type 0
 Octets os = (i : ℕ) → octet os i < 256
@@ -48,5 +48,5 @@ AllAreNamed = (node : Node) (os : List ℕ) → Octets os → fault_at node os �
 -- The byte that a fault tells has the value told, which is not named, and every byte before it is named.
 abbrev pub TheFirst : Type 0
 TheFirst =
-    (node : Node) (os : List ℕ) → Octets os → (byte value : ℕ) (expected : Expected) → fault_at node os ≡ misses byte value expected →
-    (octet os byte ≡ value) × ((Named node os byte → ⊥) × ((i : ℕ) → i < byte → Named node os i))
+    (node : Node) (os : List ℕ) → Octets os → (f : Fault) → fault_at node os ≡ Some f →
+    (octet os f.octet ≡ f.value) × ((Named node os f.octet → ⊥) × ((i : ℕ) → i < f.octet → Named node os i))
