@@ -1,5 +1,8 @@
 // The first octets of a buffer: those of a line, or records that wait to be written.
-ghost use Rattle.std.specs.Prelude.{◌≡◌, ◌≤◌, take};
+ghost use Rattle.std.specs.Prelude.{◌≡◌, ◌≤◌, [], ltb, take};
+ghost use Rattle.lines.specs.Lines.{page, put_byte, put_text};
+
+use lines::Line;
 
 #[derive(Drop)]
 pub(crate) struct Buffer {
@@ -9,7 +12,9 @@ pub(crate) struct Buffer {
 }
 
 impl Buffer {
-    pub(crate) fn new() -> Self {
+    pub(crate) fn new() -> Self
+        ensures { take result.length result.octets ≡ [] }
+    {
         Buffer {
             octets: streams::zeros(),
             length: 0,
@@ -23,7 +28,11 @@ impl Buffer {
     }
 
     // Whether there was room for it. A bool, since a Result would be no plainer: no value comes of it, and there is one reason for a no.
-    pub(crate) fn push(&mut self, octet: u8) -> bool {
+    #[tactic(auto, using(lines::proofs::Laws::put_in, lines::proofs::Laws::put_past))]
+    pub(crate) fn push(&mut self, octet: u8) -> bool
+        ensures room { result ≡ ltb self.old.length 4096 }
+        ensures held { page self.new.octets self.new.length ≡ put_byte (page self.old.octets self.old.length) octet }
+    {
         if self.length < self.octets.len() {
             self.octets[self.length] = octet;
             self.length += 1;
@@ -33,13 +42,20 @@ impl Buffer {
     }
 
     // As many as there is room for.
-    pub(crate) fn append(&mut self, octets: &[u8]) {
-        for octet in octets {
-            self.push(*octet);
-        }
+    pub(crate) fn append(&mut self, octets: &[u8])
+        ensures { page self.new.octets self.new.length ≡ put_text (page self.old.octets self.old.length) octets.now }
+    {
+        let mut line = Line {
+            buffer: &mut self.octets,
+            at: self.length,
+        };
+        line.put_word(octets);
+        self.length = line.at;
     }
 
-    pub(crate) fn clear(&mut self) {
+    pub(crate) fn clear(&mut self)
+        ensures { take self.new.length self.new.octets ≡ [] }
+    {
         self.length = 0;
     }
 }
