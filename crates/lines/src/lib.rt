@@ -5,7 +5,7 @@
 #![tactic(auto)]
 
 ghost use Rattle.std.specs.Prelude.{◌≡◌, ◌++◌};
-ghost use Rattle.lines.specs.Lines.{number_text};
+ghost use Rattle.lines.specs.Lines.{page, put_byte, put_text, number_text};
 ghost use Rattle.lines.specs.Line.{with_byte, with_text};
 
 #[derive(Drop)]
@@ -18,18 +18,13 @@ impl Line<'_> {
     pub fn put_byte(&mut self, byte: u8)
         ensures { self.new ≡ with_byte self.old byte }
     {
-        if self.at < self.buffer.len() {
-            self.buffer[self.at] = byte;
-            self.at += 1;
-        }
+        self.at = put_at(self.buffer, self.at, byte);
     }
 
     pub fn put_word(&mut self, word: &[u8])
         ensures { self.new ≡ with_text self.old word.now }
     {
-        for &byte in word {
-            self.put_byte(byte);
-        }
+        self.at = put_from(self.buffer, self.at, word);
     }
 
     // In decimal.
@@ -49,4 +44,27 @@ impl Line<'_> {
         self.put_word(word);
         self.put_number(number);
     }
+}
+
+// A byte, put at a place of a buffer: the place behind it. The place is a value here and stands behind no reference with the buffer: there
+// it would be read and written anew for each byte of a word.
+fn put_at(buffer: &mut [u8], at: usize, byte: u8) -> usize
+    ensures { page buffer.new result ≡ put_byte (page buffer.old at) byte }
+{
+    if at < buffer.len() {
+        buffer[at] = byte;
+        return at + 1;
+    }
+    at
+}
+
+// A word, put from a place of a buffer on: the place behind it.
+fn put_from(buffer: &mut [u8], at: usize, word: &[u8]) -> usize
+    ensures { page buffer.new result ≡ put_text (page buffer.old at) word.now }
+{
+    let mut place = at;
+    for &byte in word {
+        place = put_at(buffer, place, byte);
+    }
+    place
 }

@@ -1,10 +1,6 @@
--- Nothing has been put before the first turn, and each turn puts one byte more. Assumes nothing.
-use Rattle.std.proofs.Common.{arith}
-use Rattle.lines.proofs.Lines.{nothing_put, one_more}
+-- `put_word` meets its contract. Assumes nothing.
+use Rattle.lines.proofs.Lines.{turned_by}
 use Rattle.lines.proofs.Line.put_word.Goals as goal
 
-pub loop-byte-init : goal.loop-byte-init
-loop-byte-init c = nothing_put _
-
-pub loop-byte-preserved : goal.loop-byte-preserved
-loop-byte-preserved c = one_more _ _ _ _ c.loop-byte.byte-index (omega arith) c.loop-byte.invariant c.put_byte.ensures
+pub returns : goal.returns
+returns c = turned_by _ _ _ _ c.put_from-self.ensures
